@@ -1,0 +1,2 @@
+-- Read in this order: Chains (what a chain of edges reaches, over any edges).
+pub mod Chains

@@ -1,0 +1,1 @@
+// Relations on the numbers below m as tables of bits in lent rooms.
