@@ -9,7 +9,7 @@ bit-requires : tie.Need-bit-requires
 bit-requires c κs = let p = c .before .before .pre in record { row = p .0 .into; bit = p .1 }
 
 join-row-requires : tie.Need-join-row-requires
-join-row-requires c κs = c .before .before .before .before .before .pre .0
+join-row-requires c κs = search needs
 
 same-length : tie.Need-same-length
 same-length c = search needs

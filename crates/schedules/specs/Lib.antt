@@ -1,0 +1,6 @@
+-- Read in this order: Tally (counting), Machine (one step of the barriers), Threads (schedules), Order (happens-before, reuse), Claims (what is proved).
+pub mod Tally
+pub mod Machine
+pub mod Threads
+pub mod Order
+pub mod Claims
