@@ -25,12 +25,6 @@ round-requires c κs =
     let l = c .before .before .loop in
     (rw (l .inv .1 .len) (c .before .before .before .before .pre), c .before .loop-test .taken)
 
-add-k : tie.Need-add-k Inv-loop μ-loop
-add-k c = search needs
-
-loop-less : tie.Need-loop-less Inv-loop μ-loop
-loop-less c = search needs
-
 loop-again : tie.Need-loop-again Inv-loop μ-loop
 loop-again c =
     let l = c .before .before .before .before .before .loop in
@@ -38,9 +32,6 @@ loop-again c =
     let a = s .args in
     let hm = columns (length (a .room .now)) (a .w) (a .m) (s .pre) in
     (search needs, round-next (a .room .now) (l .room) _ (a .w) (a .m) (l .k) (c .before .before .before .before .loop-test .taken) hm (l .inv .1) (c .before .before .round .ensures))
-
-same-length : tie.Need-same-length Inv-loop μ-loop
-same-length c = search needs
 
 returns : tie.Need-returns Inv-loop μ-loop
 returns c =
@@ -56,8 +47,8 @@ all-rounds-spec =
     μ-loop
     loop-holds
     round-requires
-    add-k
-    loop-less
+    (λ c. search needs)
+    (λ c. search needs)
     loop-again
-    same-length
+    (λ c. search needs)
     returns)

@@ -25,12 +25,6 @@ join-if-requires c κs =
     let s = c .before .before .before .before in
     rw (l .inv .1 .len) (two-rows (length (s .args .room .now)) (s .args .w) (s .args .m) (l .i) (s .args .k) (s .pre .0) (c .before .loop-test .taken) (s .pre .1))
 
-add-i : tie.Need-add-i Inv-loop μ-loop
-add-i c = search needs
-
-loop-less : tie.Need-loop-less Inv-loop μ-loop
-loop-less c = search needs
-
 loop-again : tie.Need-loop-again Inv-loop μ-loop
 loop-again c =
     let l = c .before .before .before .before .before .loop in
@@ -38,9 +32,6 @@ loop-again c =
     let a = s .args in
     let hk : a .k < 32 * a .w = omega (arith, columns (length (a .room .now)) (a .w) (a .m) (s .pre .0), s .pre .1) in
     (search needs, round-more (a .room .now) (l .room) _ (a .w) (a .k) (l .i) hk (l .inv .1) (c .before .before .join-if .ensures))
-
-same-length : tie.Need-same-length Inv-loop μ-loop
-same-length c = search needs
 
 returns : tie.Need-returns Inv-loop μ-loop
 returns c =
@@ -56,8 +47,8 @@ round-spec =
     μ-loop
     loop-holds
     join-if-requires
-    add-i
-    loop-less
+    (λ c. search needs)
+    (λ c. search needs)
     loop-again
-    same-length
+    (λ c. search needs)
     returns)

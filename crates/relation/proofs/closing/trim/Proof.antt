@@ -31,20 +31,11 @@ trim-row-requires c κs =
     let rows = row-in (length (s .args .room .now)) (s .args .w) (s .args .m) (l .i) (s .pre .rows) (c .before .loop-test .taken) in
     record { row = omega (arith, rows, l .inv .1 .len); last = s .pre .wide ∙ last-word (s .args .m) (c .before .before .before .if1 .left) }
 
-add-i : tie.Need-add-i Inv-loop μ-loop
-add-i c = search needs
-
-loop-less : tie.Need-loop-less Inv-loop μ-loop
-loop-less c = search needs
-
 loop-again : tie.Need-loop-again Inv-loop μ-loop
 loop-again c =
     let l = c .before .before .before .before .before .loop in
     let a = c .before .before .before .before .before .before .before .before .args in
     (search needs, trim-more (a .room .now) (l .room) _ (a .w) (a .m) (l .i) (l .inv .1) (c .before .before .trim-row .ensures))
-
-same-length : tie.Need-same-length Inv-loop μ-loop
-same-length c = search needs
 
 returns-2 : tie.Need-returns-2 Inv-loop μ-loop
 returns-2 c =
@@ -61,8 +52,8 @@ trim-spec =
     returns
     loop-holds
     trim-row-requires
-    add-i
-    loop-less
+    (λ c. search needs)
+    (λ c. search needs)
     loop-again
-    same-length
+    (λ c. search needs)
     returns-2)

@@ -1,0 +1,15 @@
+// The table type. Its limits are named here once; the definitions hold them to document 01's numbers.
+pub struct Table;
+
+impl Table {
+    // a table has at most so many rows
+    pub const ROWS: usize = 512;
+    // and at most so many threads
+    pub const THREADS: usize = 64;
+    // barriers are below this
+    pub const BARRIERS: usize = 16;
+    // addresses are below this
+    pub const ADDRESSES: usize = 4096;
+    // a count is at most this
+    pub const COUNT: usize = 1024;
+}
