@@ -36,6 +36,16 @@ module _ {E R : ℕ → ℕ → Type 0} (f : (i j : ℕ) → E i j → R i j) (t
   reach-least r {i} here = r i
   reach-least r {i} (goes {k} {j} p e) = t i k j (reach-least r p) (f k j e)
 
+-- chains of edges that may also stay in place, and what the edges proper reach
+module _ {E F : ℕ → ℕ → Type 0} where
+  pub chain-reach : ((i j : ℕ) → F i j → (i ≡ j) ⊎ E i j) → {i j : ℕ} → Chain F i j → Reach E i j
+  chain-reach h p =
+      chain-least (λ i j e. ⊎-elim (λ (q : i ≡ j). subst (Reach E i) q here) (λ (x : E i j). goes here x) (h i j e)) (λ i k j. reach-join) p
+
+  pub reach-chain : ((i j : ℕ) → E i j → F i j) → {i : ℕ} → F i i → {j : ℕ} → Reach E i j → Chain F i j
+  reach-chain f s here = one s
+  reach-chain f s (goes {k} {j} p e) = join (reach-chain f s p) (one (f k j e))
+
 -- ---- the rounds of a table
 
 module _ (f : ℕ → ℕ → Bool) where
@@ -97,17 +107,17 @@ module _ (f : ℕ → ℕ → Bool) where
 
 -- and, with each number at itself, exactly what can be reached
 pub decides-reach : (f : ℕ → ℕ → Bool) (n i j : ℕ) → i < n → j < n → (rounds (orSame f) n i j ≡ true) ↔ Reach (On n f) i j
-decides-reach f n i j li lj = (forth, back)
+decides-reach f n i j li lj =
+    let (to, from) = decides (orSame f) n i j li lj in
+    (λ t. chain-reach split-edge (to t), λ p. from (reach-chain more-edge same-edge p))
   where
-    edge : (i j : ℕ) → i < n → j < n → orSame f i j ≡ true → Reach (On n f) i j
-    edge i j li lj e =
-        ⊎-elim (λ (q : eqb i j ≡ true). subst (Reach (On n f) i) (eqb-true i j q) here)
-        (λ (s : f i j ≡ true). goes here (record { from = li; to = lj; set = s }))
-        (either (eqb i j) (f i j) e)
+    split-edge : (i j : ℕ) → On n (orSame f) i j → (i ≡ j) ⊎ On n f i j
+    split-edge i j e =
+        ⊎-elim (λ (q : eqb i j ≡ true). inl (eqb-true i j q)) (λ (s : f i j ≡ true). inr (record { from = e .from; to = e .to; set = s }))
+        (either (eqb i j) (f i j) (e .set))
 
-    forth : rounds (orSame f) n i j ≡ true → Reach (On n f) i j
-    forth = rounds-only (orSame f) (Reach (On n f)) n edge (λ i p j. reach-join) n i j (omega arith) li lj
+    more-edge : (i j : ℕ) → On n f i j → On n (orSame f) i j
+    more-edge i j e = record { from = e .from; to = e .to; set = right (eqb i j) (f i j) (e .set) }
 
-    back : {j : ℕ} → Reach (On n f) i j → rounds (orSame f) n i j ≡ true
-    back here = rounds-one (orSame f) n i i (left (eqb i i) _ (eq-eqb i i refl))
-    back (goes {k} {j} p e) = rounds-join (orSame f) n i k j (e .from) (back p) (rounds-one (orSame f) n k j (right (eqb k j) _ (e .set)))
+    same-edge : On n (orSame f) i i
+    same-edge = record { from = li; to = li; set = left (eqb i i) (f i i) (eq-eqb i i refl) }

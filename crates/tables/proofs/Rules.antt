@@ -12,7 +12,7 @@ use lib.ListN.{length}
 use borrow.Author.Tests.{ltb-true, ltb-false, leb-true, eqb-true, eqb-false, not-false, lt-ltb, le-ltb, eq-eqb, ne-eqb}
 use Rattle.tables.specs.declared.verdict.Told.{Told}
 use Rattle.tables.specs.Limits.{addresses, barriers, mostCount}
-use Rattle.tables.specs.Rows.{rows}
+use Rattle.tables.specs.Rows.{rows, arrive, sync}
 use Rattle.tables.specs.Rules.{rowKeeps, keeps, firstBad, badCommands, badLengths, checked, Keeps}
 use Rattle.tables.specs.Verdicts.{tell}
 use Rattle.tables.proofs.Lowest.{Lowest, lowest-first, lowest-is}
@@ -93,19 +93,19 @@ module _ (commands lengths : List ℕ) where
 -- ---- a row that keeps the rules
 
 module _ (k n c : ℕ) (e : rowKeeps k n c ≡ true) where
-  pub row-access : k < 2 → (n < addresses) × (c ≡ 0)
+  pub row-access : k < arrive → (n < addresses) × (c ≡ 0)
   unfolding rowKeeps
   row-access l =
-      let (f, g) = and-eq-true-iff (ltb n addresses) _ .0 (rw (lt-ltb k 2 l) at e) in
+      let (f, g) = and-eq-true-iff (ltb n addresses) _ .0 (rw (lt-ltb k arrive l) at e) in
       (ltb-true _ _ f, eqb-true _ _ g)
 
-  pub row-barrier : 2 ≤ k → (k < 4) × (n < barriers) × (1 ≤ c) × (c ≤ mostCount)
+  pub row-barrier : arrive ≤ k → (k ≤ sync) × (n < barriers) × (1 ≤ c) × (c ≤ mostCount)
   unfolding rowKeeps
   row-barrier l =
-      let (f, u) = and-eq-true-iff (ltb k 4) _ .0 (rw (le-ltb k 2 l) at e) in
+      let (f, u) = and-eq-true-iff (leb k sync) _ .0 (rw (le-ltb k arrive l) at e) in
       let (g, v) = and-eq-true-iff (ltb n barriers) _ .0 u in
       let (h, i) = and-eq-true-iff (leb 1 c) _ .0 v in
-      (ltb-true _ _ f, ltb-true _ _ g, leb-true _ _ h, leb-true _ _ i)
+      (leb-true _ _ f, ltb-true _ _ g, leb-true _ _ h, leb-true _ _ i)
 
-  pub row-kind : k < 4
-  row-kind = by-cases (decLt k 2) (λ (l : k < 2). omega arith) (λ (l : ¬ (k < 2)). row-barrier (omega arith) .0)
+  pub row-kind : k ≤ sync
+  row-kind = by-cases (decLt k arrive) (λ (l : k < arrive). omega arith) (λ (l : ¬ (k < arrive)). row-barrier (omega arith) .0)

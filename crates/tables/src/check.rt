@@ -12,10 +12,10 @@ fn keeps_rules(kind: u32, name: u32, count: u32) -> bool
 {
     let named = name as usize;
     let counted = count as usize;
-    if kind < 2 {
+    if kind < Table::ARRIVE {
         return (named < Table::ADDRESSES) & (counted == 0);
     }
-    (kind < 4) & (named < Table::BARRIERS) & (1 <= counted) & (counted <= Table::COUNT)
+    (kind <= Table::SYNC) & (named < Table::BARRIERS) & (1 <= counted) & (counted <= Table::COUNT)
 }
 
 // The first row that breaks them, or the number of rows.

@@ -1,7 +1,16 @@
-// The table type. Its limits are named here once; the definitions hold them to document 01's numbers.
+// The table type. Its limits and the kinds of its rows are named here once; the definitions hold them to document 01's numbers.
 pub struct Table;
 
 impl Table {
+    // the kinds of a row
+    pub const READ: u32 = 0;
+
+    pub const WRITE: u32 = 1;
+
+    pub const ARRIVE: u32 = 2;
+
+    pub const SYNC: u32 = 3;
+
     // a table has at most so many rows
     pub const ROWS: usize = 512;
     // and at most so many threads
