@@ -4,18 +4,18 @@ use Prim.Native.Nat.{ℕ, zero, suc, _+_, _-_, _*_, _/_, _%_, _^_, _≤_, _<_}
 use native.Mathlib.Nat.{mul-le-mul-right, suc-mul, div-lt-iff-lt-mul, div-add-mod', mod-lt, mul-zero, eq-zero-or-pos, mul-le-mul-left, zero-div}
 use native.Mathlib.Omega.{arith}
 use native.Mathlib.Decide.{decLt, ℕ-discrete}
-use mathlib.Core.Path.{_≡_, refl, sym, ap, ap₂, _∙_}
+use mathlib.Core.Path.{_≡_, refl, sym, ap, _∙_}
 use mathlib.Core.Logic.{_⊎_, inl, inr, ⊎-elim, by-cases, _≢_, _↔_}
-use mathlib.Core.Bool.{Bool, true, false, _&&_, _||_, and-false}
+use mathlib.Core.Bool.{Bool, true, false, and-false}
 use mathlib.Core.List.{List, _++_}
-use lib.Dec.{leb, ltb}
+use lib.Dec.{ltb}
 use lib.ListN.{length, getD, replicate, drop, length-append, length-replicate, length-drop, getD-replicate, List·getD-append}
 use lib.Seq.{ext-getD, getD-append-add, getD-drop}
 use borrow.Author.Tests.{leb-true, ltb-true, le-leb, lt-leb, lt-ltb, le-ltb}
 use Rattle.relation.specs.Chains.{Chain, On, rounds}
 use Rattle.relation.specs.Bits.{bitOf, bitAt, BitIn, TwoRows, Stored, Rows, trimmed}
 use Rattle.relation.specs.Table.{width, words, inside, related, Related, Room, Holds, Writes, Puts}
-use Rattle.relation.proofs.Truth.{split, clashing, isnt, same-test, both, pair}
+use Rattle.relation.proofs.Truth.{split, clashing, same-test, both, pair}
 use Rattle.relation.proofs.Chains.{decides, chain-map}
 use Rattle.relation.proofs.Words.{same-word}
 use Rattle.relation.proofs.Rows.{stored-apart}

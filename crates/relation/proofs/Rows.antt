@@ -1,5 +1,5 @@
 -- Rows of words: what a store of one bit, a join of two rows and a cut of the padding do to the bits. Assumes nothing.
-use Prim.Native.Nat.{ℕ, zero, suc, _+_, _*_, _/_, _%_, _^_, _≤_, _<_}
+use Prim.Native.Nat.{ℕ, suc, _+_, _*_, _/_, _%_, _^_, _≤_, _<_}
 use native.Mathlib.Nat.{mul-le-mul-right, suc-mul, one-mul}
 use native.Mathlib.Numerals.{add-one}
 use native.Mathlib.Omega.{arith}
@@ -96,6 +96,10 @@ rows-more b r s w i f g R N e =
           let g : i * w + w ≤ p = omega (arith, suc-mul i w, ap (λ (x : ℕ). x * w) (add-one i)) in
           N .outside p (inr g) ∙ R .kept p (omega arith);
     }
+
+-- all rows are done
+pub rows-all : {b r : List ℕ} {w i m : ℕ} {f : ℕ → ℕ → Bool} → i ≤ m → m ≤ i → Rows b r w i f → Rows b r w m f
+rows-all {i = i} {m = m} low high R = let e : i ≡ m = omega arith in rw e at R
 
 -- a row that is not done is as it was
 pub not-done : (b r : List ℕ) (w i k j : ℕ) (f : ℕ → ℕ → Bool) → Rows b r w i f → i ≤ k → bitAt r w k j ≡ bitAt b w k j

@@ -1,10 +1,9 @@
 -- Row k is joined into the rows below i that have bit k. Assumes nothing.
 use Prim.Native.Nat.{_*_, _≤_, _<_, _-_}
 use native.Mathlib.Omega.{arith}
-use mathlib.Core.Path.{_≡_}
 use lib.ListN.{length}
 use Rattle.relation.specs.Bits.{Rows, joinedIf}
-use Rattle.relation.proofs.Rows.{rows-none, round-more}
+use Rattle.relation.proofs.Rows.{rows-none, rows-all, round-more}
 use Rattle.relation.proofs.Rooms.{columns, two-rows}
 use borrow.Author.Needs.{needs}
 use Rattle.relation.proofs.closing.round.Statement.{statement}
@@ -34,10 +33,7 @@ loop-again c =
     (search needs, round-more (a .room .now) (l .room) _ (a .w) (a .k) (l .i) hk (l .inv .1) (c .before .before .join-if .ensures))
 
 returns : tie.Need-returns Inv-loop μ-loop
-returns c =
-    let l = c .before .loop in
-    let e : l .i ≡ c .before .before .before .args .m = omega (arith, l .inv .0, c .loop-test .left) in
-    rw e at (l .inv .1)
+returns c = let l = c .before .loop in rows-all (l .inv .0) (c .loop-test .left) (l .inv .1)
 
 pub round-spec : {M : Type 1} → statement M
 round-spec =

@@ -1,10 +1,10 @@
 -- The rows below i are trimmed. Assumes nothing.
 use Prim.Native.Nat.{_≤_, _-_}
 use native.Mathlib.Omega.{arith}
-use mathlib.Core.Path.{_≡_, _∙_}
+use mathlib.Core.Path.{_∙_}
 use lib.ListN.{length}
 use Rattle.relation.specs.Bits.{Rows, trimmed}
-use Rattle.relation.proofs.Rows.{no-padding, last-word, rows-none, trim-more}
+use Rattle.relation.proofs.Rows.{no-padding, last-word, rows-none, rows-all, trim-more}
 use Rattle.relation.proofs.Rooms.{row-in}
 use borrow.Author.Needs.{needs}
 use Rattle.relation.proofs.closing.trim.Statement.{statement}
@@ -38,10 +38,7 @@ loop-again c =
     (search needs, trim-more (a .room .now) (l .room) _ (a .w) (a .m) (l .i) (l .inv .1) (c .before .before .trim-row .ensures))
 
 returns-2 : tie.Need-returns-2 Inv-loop μ-loop
-returns-2 c =
-    let l = c .before .loop in
-    let e : l .i ≡ c .before .before .before .before .args .m = omega (arith, l .inv .0, c .loop-test .left) in
-    rw e at (l .inv .1)
+returns-2 c = let l = c .before .loop in rows-all (l .inv .0) (c .loop-test .left) (l .inv .1)
 
 pub trim-spec : {M : Type 1} → statement M
 trim-spec =
