@@ -12,7 +12,8 @@
 //   (F) one file two clean schedules of a program without a reuse fault have the same generations and the same happens-before
 //   (R1) always  without a reuse fault an access runs after all that reaches it, in every complete schedule
 //   (R2) either  and before anything that does not reach it, in some complete schedule
-//   one order    so two accesses stand in one order in all complete schedules exactly when one reaches the other
+//   one order    so, without a reuse fault, two different accesses stand in one order in all complete schedules exactly when one
+//                reaches the other
 //   decided      a reuse fault, and what reaches what, can be computed: the table `reach` tells
 //
 // To believe these, read specs/, a few short modules of definitions, in this order:

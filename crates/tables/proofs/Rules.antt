@@ -1,24 +1,24 @@
 -- The check passes just the tables that keep the rules, and what a row that keeps them is. Assumes nothing.
 use mathlib.Core.Path.{_≡_, refl, ap}
-use mathlib.Core.Logic.{by-cases}
-use mathlib.Core.Bool.{Bool, true, false, cond, not, _||_, and-eq-true-iff}
+use mathlib.Core.Logic.{_⊎_, inl, inr, by-cases}
+use mathlib.Core.Bool.{Bool, true, false, cond, not, _||_, or-true, and-eq-true-iff}
 use mathlib.Core.List.{List}
 use mathlib.Mathlib.Data.Bool.Basic.{or-eq-false-eq-eq-false-and-eq-false}
-use Prim.Native.Nat.{ℕ, _≤_, _<_}
+use Prim.Native.Nat.{ℕ, _%_, _≤_, _<_}
 use native.Mathlib.Decide.{decLt}
 use native.Mathlib.Omega.{arith}
-use lib.Dec.{leb, ltb}
+use lib.Dec.{eqb, leb, ltb}
 use lib.ListN.{length}
 use borrow.Author.Tests.{ltb-true, ltb-false, leb-true, eqb-true, eqb-false, not-false, lt-ltb, le-ltb, eq-eqb, ne-eqb}
 use Rattle.tables.specs.declared.verdict.Told.{Told}
-use Rattle.tables.specs.Limits.{addresses, barriers, mostCount}
-use Rattle.tables.specs.Rows.{rows, arrive, sync}
+use Rattle.tables.specs.Limits.{mostRows, mostThreads, addresses, barriers, mostCount}
+use Rattle.tables.specs.Rows.{rows, total, arrive, sync}
 use Rattle.tables.specs.Rules.{rowKeeps, keeps, firstBad, badCommands, badLengths, checked, Keeps}
 use Rattle.tables.specs.Verdicts.{tell}
 use Rattle.tables.proofs.Lowest.{Lowest, lowest-first, lowest-is}
 
 -- neither of two tests
-pub neither : (a b : Bool) → a || b ≡ false → (a ≡ false) × (b ≡ false)
+neither : (a b : Bool) → a || b ≡ false → (a ≡ false) × (b ≡ false)
 neither a b = or-eq-false-eq-eq-false-and-eq-false a b .0
 
 -- ---- the check
@@ -48,22 +48,36 @@ module _ (commands lengths : List ℕ) where
   unfolding checked
   checked-small = small (badCommands commands) (badLengths commands lengths) (ltb (firstBad commands) (rows commands)) (firstBad commands)
 
-  -- each answer, by the tests in their order
-  pub refuses-commands : badCommands commands ≡ true → checked commands lengths ≡ tell 1 0 0
+  -- each answer, by the facts that lead to it
+  pub refuses-commands : (length commands % 3 ≡ 0 → ⊥) ⊎ (mostRows < rows commands) → checked commands lengths ≡ tell 1 0 0
   unfolding checked
-  refuses-commands e = rw e
+  refuses-commands (inl n) = rw (ne-eqb (length commands % 3) 0 n)
+  refuses-commands (inr l) = rw (lt-ltb mostRows (rows commands) l, or-true (not (eqb (length commands % 3) 0)))
 
-  pub refuses-lengths : badCommands commands ≡ false → badLengths commands lengths ≡ true → checked commands lengths ≡ tell 2 0 0
-  unfolding checked
-  refuses-lengths e f = rw (e, f)
+  module _ (whole : length commands % 3 ≡ 0) (few : rows commands ≤ mostRows) where
+    good-commands : badCommands commands ≡ false
+    good-commands = simp (eq-eqb _ _ whole, le-ltb _ _ few)
 
-  pub refuses-row : badCommands commands ≡ false → badLengths commands lengths ≡ false → firstBad commands < rows commands → checked commands lengths ≡ tell 3 (firstBad commands) 0
-  unfolding checked
-  refuses-row e f l = rw (e, f, lt-ltb _ _ l)
+    pub refuses-threads : (length lengths ≡ 0) ⊎ (mostThreads < length lengths) → checked commands lengths ≡ tell 2 0 0
+    unfolding checked
+    refuses-threads (inl e) = rw (good-commands, eq-eqb (length lengths) 0 e)
+    refuses-threads (inr l) = rw (good-commands, lt-ltb mostThreads (length lengths) l, or-true (eqb (length lengths) 0))
 
-  pub refuses-none : badCommands commands ≡ false → badLengths commands lengths ≡ false → rows commands ≤ firstBad commands → checked commands lengths ≡ tell 0 0 0
-  unfolding checked
-  refuses-none e f l = rw (e, f, le-ltb _ _ l)
+    pub refuses-sum : (total lengths ≡ rows commands → ⊥) → checked commands lengths ≡ tell 2 0 0
+    unfolding checked
+    refuses-sum n = rw (good-commands, ne-eqb (total lengths) (rows commands) n, or-true (eqb (length lengths) 0 || ltb mostThreads (length lengths)))
+
+    module _ (some : 1 ≤ length lengths) (most : length lengths ≤ mostThreads) (sum : total lengths ≡ rows commands) where
+      good-lengths : badLengths commands lengths ≡ false
+      good-lengths = simp (ne-eqb (length lengths) 0 (λ e. omega arith), le-ltb _ _ most, eq-eqb _ _ sum)
+
+      pub refuses-row : firstBad commands < rows commands → checked commands lengths ≡ tell 3 (firstBad commands) 0
+      unfolding checked
+      refuses-row l = rw (good-commands, good-lengths, lt-ltb _ _ l)
+
+      pub refuses-none : rows commands ≤ firstBad commands → checked commands lengths ≡ tell 0 0 0
+      unfolding checked
+      refuses-none l = rw (good-commands, good-lengths, le-ltb _ _ l)
 
   pub passes : checked commands lengths ≡ tell 0 0 0 → Keeps commands lengths
   unfolding checked
@@ -86,9 +100,7 @@ module _ (commands lengths : List ℕ) where
   unfolding firstBad
   kept k =
       let all : firstBad commands ≡ rows commands = lowest-is _ (record { at-most = omega arith; passes = λ l. absurd (omega arith); below = λ c l. ap not (k .each-row c l) }) in
-      refuses-none (simp (eq-eqb _ _ (k .whole), le-ltb _ _ (k .few-rows)))
-      (simp (ne-eqb (length lengths) 0 (λ e. omega arith), le-ltb _ _ (k .few-threads), eq-eqb _ _ (k .adds-up)))
-      (omega arith)
+      refuses-none (k .whole) (k .few-rows) (k .some-thread) (k .few-threads) (k .adds-up) (omega arith)
 
 -- ---- a row that keeps the rules
 

@@ -9,10 +9,11 @@ mostRows = 512
 unfoldable pub mostThreads : ℕ
 mostThreads = 64
 
--- an address is below this, and so is a barrier below its own limit
+-- addresses are below this
 unfoldable pub addresses : ℕ
 addresses = 4096
 
+-- barriers are below this
 unfoldable pub barriers : ℕ
 barriers = 16
 
