@@ -6,8 +6,8 @@ use Prim.Native.Nat.{ℕ, zero, suc, min, _+_, _-_, _≤_, _<_}
 use native.Mathlib.Decide.{decLt}
 use native.Mathlib.Numerals.{add-one}
 use native.Mathlib.Omega.{arith}
-use lib.ListN.{length}
-use lib.Seq.{take-all, take-nil}
+use lib.ListN.{length, getD, drop}
+use lib.Seq.{take-all, take-nil, drop-nil, drop-cons}
 use borrow.Author.Tests.{lt-ltb, le-ltb}
 use Rattle.tables.specs.Rows.{total, firstRow, endRow, threadOf}
 
@@ -57,3 +57,20 @@ only (n ∷ lengths) c zero h = (rw (lt-ltb c n (omega arith)), omega arith)
 only (n ∷ lengths) c (suc t) h =
     let g = only lengths (c - n) t (record { there = omega arith; low = omega arith; high = omega arith }) in
     (rw (le-ltb c n (omega arith)) (ap suc (g .0)), omega arith)
+
+-- ---- the thread of a row, sought from thread t on
+
+pub thread-none : (lengths : List ℕ) (t left : ℕ) → length lengths ≤ t → threadOf (drop t lengths) left ≡ 0
+unfolding threadOf
+thread-none [] t left l = rw drop-nil
+thread-none (n ∷ lengths) zero left l = absurd (omega arith)
+thread-none (n ∷ lengths) (suc t) left l = thread-none lengths t left (omega arith)
+
+pub thread-here : (lengths : List ℕ) (t left : ℕ) → t < length lengths → left < getD lengths t 0 → threadOf (drop t lengths) left ≡ 0
+unfolding threadOf
+thread-here lengths t left l h = rw (drop-cons lengths t 0 l, lt-ltb _ _ h)
+
+pub thread-past : (lengths : List ℕ) (t left : ℕ) → t < length lengths → getD lengths t 0 ≤ left
+    → threadOf (drop t lengths) left ≡ suc (threadOf (drop (t + 1) lengths) (left - getD lengths t 0))
+unfolding threadOf
+thread-past lengths t left l h = rw (drop-cons lengths t 0 l, le-ltb _ _ h, add-one)

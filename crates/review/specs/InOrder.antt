@@ -1,0 +1,9 @@
+-- Verdicts in the order tested.
+use mathlib.Core.Bool.{cond}
+use Prim.Native.Nat.{ℕ}
+use lib.Dec.{eqb}
+use Rattle.tables.specs.declared.verdict.Told.{Told}
+
+-- the first verdict unless its number is 0, and then the second
+abbrev pub orElse : Told → Told → Told
+orElse a b = cond (eqb (a .number) 0) b a

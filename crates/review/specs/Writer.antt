@@ -1,0 +1,60 @@
+-- The schedule writer always lets the lowest allowed thread step.
+use mathlib.Core.Path.{_≡_}
+use mathlib.Core.Bool.{Bool, true, false, cond}
+use mathlib.Core.List.{List, [], _∷_, _++_}
+use Prim.Native.Nat.{ℕ, zero, suc, _≤_}
+use lib.Dec.{ltb}
+use lib.ListN.{length, drop}
+use Rattle.tables.specs.Rows.{rows}
+use Rattle.tables.specs.Rules.{Keeps, checked}
+use Rattle.tables.specs.Verdicts.{tell, numbered}
+use Rattle.tables.specs.declared.verdict.Told.{Told}
+use Rattle.review.specs.declared.state.Replay.{Replay}
+use Rattle.review.specs.declared.step.How.the-variants.{Mismatch, Ran}
+use Rattle.review.specs.declared.step.Did.{Did}
+use Rattle.review.specs.declared.step.Did.the-variants.{NotAllowed, Took}
+use Rattle.review.specs.declared.writer.Written.{Written}
+use Rattle.review.specs.State.{start}
+use Rattle.review.specs.Step.{stepped}
+use Rattle.review.specs.Ending.{lowestAllowed}
+use Rattle.review.specs.InOrder.{orElse}
+
+-- A schedule goes on after a command that ran, and ends with the step that mismatches.
+abbrev pub goesOn : Did → Bool
+goesOn NotAllowed = false
+goesOn (Took (Mismatch c)) = false
+goesOn (Took (Ran c generation)) = true
+
+-- The steps from a state, at most n: the lowest allowed thread each time, until none is allowed or the step mismatches.
+unfoldable pub lowestFirst : List ℕ → List ℕ → ℕ → Replay → List ℕ
+lowestFirst commands lengths zero s = []
+lowestFirst commands lengths (suc n) s =
+    cond (ltb (lowestAllowed lengths s) (length lengths))
+    (lowestAllowed lengths s
+    ∷ cond (goesOn (stepped commands lengths s (lowestAllowed lengths s) .did))
+    (lowestFirst commands lengths n (stepped commands lengths s (lowestAllowed lengths s) .after)) [])
+    []
+
+-- The schedule of two tables. M steps are enough for it to be complete.
+unfoldable pub schedule : List ℕ → List ℕ → List ℕ
+schedule commands lengths = lowestFirst commands lengths (rows commands) start
+
+-- 1 to 3, or 4 for a schedule room under M
+unfoldable pub unwritten : List ℕ → List ℕ → ℕ → Told
+unwritten commands lengths room = orElse (checked commands lengths) (cond (ltb room (rows commands)) (tell 4 2 0) (tell 0 0 0))
+
+-- The schedule stands first in the room, and the room beyond it is kept.
+pub record Filled (commands lengths before after : List ℕ) (n : ℕ) : Type 0 where
+  pub long : n ≡ length (schedule commands lengths)
+  pub room : after ≡ schedule commands lengths ++ drop n before
+
+-- What the writer answers: 1 to 4 and the room as it was, or the schedule and its length.
+pub record Writes (commands lengths before after : List ℕ) (r : Written) : Type 0 where
+  pub verdict : numbered (r .verdict) ≡ unwritten commands lengths (length before)
+  pub refused : (numbered (r .verdict) .number ≡ 0 → ⊥) → (r .length ≡ 0) × (after ≡ before)
+  pub wrote : numbered (r .verdict) .number ≡ 0 → Filled commands lengths before after (r .length)
+
+-- what writing asks for
+pub record Fits (commands lengths room : List ℕ) : Type 0 where
+  pub keeps : Keeps commands lengths
+  pub fits : rows commands ≤ length room

@@ -1,0 +1,116 @@
+// The review: the refusals, the replay, the rooms and the verdict.
+ghost use mathlib.Core.Path.{_≡_};
+ghost use mathlib.Core.List.{[]};
+ghost use lib.ListN.{length};
+ghost use Prim.Native.Nat.{_≤_};
+ghost use Rattle.tables.specs.Rows.{rows};
+ghost use Rattle.tables.specs.Rules.{Keeps};
+ghost use Rattle.tables.specs.Verdicts.{numbered};
+ghost use Rattle.relation.specs.Table.{related};
+ghost use Rattle.review.specs.Sheet.{sheetOf};
+ghost use Rattle.review.specs.Order.{at};
+ghost use Rattle.review.specs.Judge.{refused, judged, Looked, Plays};
+ghost use Rattle.review.specs.Agreement.{Reviewed};
+use crate::faults::Fault;
+use crate::faults::search;
+use crate::order::put_generations;
+use crate::order::put_order;
+use crate::replay::Replayed;
+use crate::replay::replay;
+use crate::sheet::Sheet;
+use relation::table_words;
+use tables::Verdict;
+use tables::check_tables;
+
+pub struct Finding {
+    pub verdict: Verdict,
+    pub sheet: Sheet,
+}
+
+// A verdict without a fault's pairs.
+fn bare(verdict: Verdict) -> Finding
+    ensures { λ r. ⌜ r ≡ record { verdict = verdict; sheet = sheetOf [] } ⌝ }
+{
+    Finding {
+        verdict,
+        sheet: Sheet::empty(),
+    }
+}
+
+// 1 to 4, or 0.
+fn refuse(commands: &[u32], lengths: &[u32], relation: usize, generations: usize) -> Verdict
+    ensures { λ r. ⌜ numbered r ≡ refused (now (commands .entry)) (now (lengths .entry)) relation generations ⌝ }
+{
+    let verdict = check_tables(commands, lengths);
+    if verdict.number().number != 0 {
+        return verdict;
+    }
+    let m = commands.len() / 3;
+    if relation < table_words(m as u32) {
+        return Verdict::ShortRoom(0);
+    }
+    if generations < m {
+        return Verdict::ShortRoom(1);
+    }
+    Verdict::Clean
+}
+
+// 5 and 7, then 6, 8 and 9, or 0.
+fn judge(replayed: Replayed, lengths: &[u32]) -> Verdict
+    requires { ⌜ Plays (now lengths) replayed ⌝ }
+    ensures { λ r. ⌜ numbered r ≡ judged (now (lengths .entry)) replayed ⌝ }
+{
+    let verdict = replayed.verdict;
+    if verdict.number().number != 0 {
+        return verdict;
+    }
+    replayed.state.ending(lengths, replayed.steps)
+}
+
+// 10, 11 or 0, with the sheet. Races are looked for only when there is no reuse fault.
+fn look(commands: &[u32], lengths: &[u32], generations: &[u32], relation: &[u32]) -> Finding
+    requires { ⌜ Keeps (now commands) (now lengths) × (rows (now commands) ≤ length (now generations)) ⌝ }
+    ensures { λ r. ⌜ Looked (now (commands .entry)) (now (lengths .entry)) (at (now (generations .entry))) (related (now (relation .entry)) (rows (now (commands .entry)))) r ⌝ }
+{
+    let reuses = search(Fault::Reuse, commands, lengths, generations, relation);
+    if reuses.total != 0 {
+        let pair = reuses.pairs[0];
+        return Finding {
+            verdict: Verdict::Reuse(pair.first, pair.second),
+            sheet: reuses,
+        };
+    }
+    let races = search(Fault::Race, commands, lengths, generations, relation);
+    if races.total != 0 {
+        let pair = races.pairs[0];
+        return Finding {
+            verdict: Verdict::Race(pair.first, pair.second),
+            sheet: races,
+        };
+    }
+    bare(Verdict::Clean)
+}
+
+// Any tables, any schedule, any rooms. The verdict up to 9 is found before a room is touched; only for 0, 10 and 11 are they filled.
+pub fn review(
+    commands: &[u32],
+    lengths: &[u32],
+    schedule: &[u32],
+    relation: &mut [u32],
+    generations: &mut [u32],
+) -> Finding
+    ensures { λ r. ⌜ Reviewed (now (commands .entry)) (now (lengths .entry)) (now (schedule .entry)) (now (relation .entry)) (now (generations .entry)) r (now (relation .exit)) (now (generations .exit)) ⌝ }
+{
+    let refusal = refuse(commands, lengths, relation.len(), generations.len());
+    if refusal.number().number != 0 {
+        return bare(refusal);
+    }
+    let replayed = replay(commands, lengths, schedule);
+    let verdict = judge(replayed, lengths);
+    if verdict.number().number != 0 {
+        return bare(verdict);
+    }
+    put_generations(generations, replayed.generations, commands.len() / 3);
+    put_order(commands, lengths, generations, relation);
+    look(commands, lengths, generations, relation)
+}
