@@ -61,7 +61,8 @@ impl Replay {
         let mut b = 0;
         while b < Table::BARRIERS {
             let barrier = self.barriers[b];
-            if is_set(barrier.phase) {
+            let phase = barrier.phase;
+            if is_set(phase) {
                 return b;
             }
             b += 1;

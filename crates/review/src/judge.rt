@@ -110,7 +110,8 @@ pub fn review(
     if verdict.number().number != 0 {
         return bare(verdict);
     }
-    put_generations(generations, replayed.generations, commands.len() / 3);
+    let found = replayed.generations;
+    put_generations(generations, found, commands.len() / 3);
     put_order(commands, lengths, generations, relation);
     look(commands, lengths, generations, relation)
 }

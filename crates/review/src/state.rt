@@ -86,7 +86,8 @@ impl Replay {
         ensures { λ r. ⌜ r ≡ freed self b ⌝ }
     {
         let waits = self.waits;
-        self.waits = release(waits, b as u32 + 1);
+        let after = release(waits, b as u32 + 1);
+        self.waits = after;
         self
     }
 }

@@ -43,7 +43,8 @@ fn write(commands: &[u32], lengths: &[u32], room: &mut [u32]) -> usize
         steps += 1;
         let stepped = state.step(commands, lengths, t);
         state = stepped.after;
-        if !goes_on(stepped.did) {
+        let did = stepped.did;
+        if !goes_on(did) {
             return steps;
         }
     }
