@@ -60,11 +60,13 @@ module _ (commands lengths : List ℕ) where
     pub clean : (τ : List ℕ) → Complete τ → Clean τ
     pub alike : (σ τ : List ℕ) → Complete σ → Complete τ → Alike σ τ
 
-  -- Every two conflicting accesses stand in the same order in all of those schedules.
+  -- x and y stand in the same order in all legal complete schedules.
+  abbrev pub InOneOrder : ℕ → ℕ → Type 0
+  InOneOrder x y = (σ τ : List ℕ) → Complete σ → Complete τ → Precedes x y σ ↔ Precedes x y τ
+
+  -- Every two conflicting accesses do.
   abbrev pub SameOrder : Type 0
-  SameOrder =
-      (x y : ℕ) → x < rows commands → y < rows commands → x ≢ y → conflict commands x y ≡ true
-      → (σ τ : List ℕ) → Complete σ → Complete τ → Precedes x y σ ↔ Precedes x y τ
+  SameOrder = (x y : ℕ) → x < rows commands → y < rows commands → x ≢ y → conflict commands x y ≡ true → InOneOrder x y
 
   -- That agreement fails: a legal complete schedule that does not end clean, or two that differ in the generation of a command.
   pub data Disagree : Type 0 where

@@ -1,0 +1,155 @@
+-- Demand 3: what the verdict from one schedule says of all legal complete schedules. Assumes nothing.
+use mathlib.Core.Path.{_≡_, refl, sym, ap, _∙_, subst}
+use mathlib.Core.Logic.{_⊎_, inl, inr, ⊎-elim, by-cases, _↔_, _≢_}
+use mathlib.Core.Bool.{Bool, true, false, cond}
+use mathlib.Core.List.{List, [], _∷_, reverse, reverse-reverse}
+use Prim.Native.Nat.{ℕ, suc, _+_, _-_, _≤_, _<_}
+use native.Mathlib.Omega.{arith}
+use native.Mathlib.Decide.{decLt, ℕ-discrete}
+use lib.Dec.{eqb, ltb}
+use lib.ListN.{length}
+use borrow.Author.Tests.{lt-ltb, le-ltb, ltb-true, ltb-false, eqb-true, eqb-false}
+use Rattle.tables.specs.Limits.{barriers}
+use Rattle.tables.specs.Lowest.{lowest}
+use Rattle.tables.specs.Rows.{rows, threadOf}
+use Rattle.tables.specs.Rules.{Keeps}
+use Rattle.tables.specs.Verdicts.{tell, numbered}
+use Rattle.tables.specs.declared.verdict.Told.{Told}
+use Rattle.tables.specs.declared.verdict.Verdict.the-variants as verdict
+use Rattle.tables.proofs.Lowest.{Lowest, lowest-first}
+use Rattle.relation.proofs.Truth.{split, clashing, isnt, both}
+use Rattle.schedules.specs.Machine.{Program}
+use Rattle.schedules.specs.Threads as threads
+use Rattle.schedules.specs.Order.{Reaches, Reuse, NoReuse, reach}
+use Rattle.schedules.specs.Claims as claims
+use Rattle.schedules.proofs.Tests.{not-matching}
+use Rattle.schedules.proofs.Theorems.{agreement, one-order, real, decided}
+use Rattle.review.specs.declared.replay.Replayed.{Replayed}
+use Rattle.review.specs.declared.sheet.Pair.{Pair}
+use Rattle.review.specs.declared.faults.Fault.the-variants as fault
+use Rattle.review.specs.Step.{allowed}
+use Rattle.review.specs.Ending.{isBlocked, barrierSet, lowestAllowed, lowestBlocked, lowestSet, lastRun, ended}
+use Rattle.review.specs.InOrder.{orElse}
+use Rattle.review.specs.Replay.{played, generation}
+use Rattle.review.specs.Order.{program}
+use Rattle.review.specs.Faults.{conflict, race, faults}
+use Rattle.review.specs.Judge.{judged, faultTold, generations, reaches}
+use Rattle.review.specs.Schedules.{Stops, Complete, stopped, mismatched, Clean, Agree, SameOrder, Disagree, unclean}
+use Rattle.review.specs.Schedules as schedules
+use Rattle.review.specs.Agreement.{Judges}
+use Rattle.review.proofs.Programs as programs
+use Rattle.review.proofs.Plays.{Ends, through, refused-at, mismatched-at, Through, plays-all, clean-through, legal-through}
+use Rattle.review.proofs.Schedules.{unlike, complete-from, clean-to, generation-is}
+use Rattle.review.proofs.Agreements.{reuse-same, reaches-same, reaches-on, agree-to, agree-from, disagreed, order-to, order-from}
+use Rattle.review.proofs.Pairs.{reuse-is, race-is, no-faults, some-fault}
+use Rattle.review.proofs.Conflicts.{accesses, reaches-either}
+
+module _ {rowsOf lengths : List ℕ} (K : Keeps rowsOf lengths) (σ : List ℕ) where
+  abbrev P : Program
+  P = program rowsOf lengths
+
+  abbrev H : threads.Threads (program rowsOf lengths)
+  H = programs.threads K
+
+  abbrev r : Replayed
+  r = played rowsOf lengths σ
+
+  -- ---- where the offered schedule is not legal and complete, or the schedules do not agree
+
+  judges-none : (n : ℕ) → ¬ (Complete rowsOf lengths σ × Agree rowsOf lengths) → n ≢ 0 → n ≢ 11 → (7 ≤ n → n ≤ 10 → Disagree rowsOf lengths) → Judges rowsOf lengths σ n
+  judges-none n nay a b d =
+      record {
+        agreement = (⊎-elim (λ e. absurd (a e)) (λ e. absurd (b e)), λ p. absurd (nay p));
+        order = ((λ e. absurd (a e)), λ p. absurd (nay (p .0, p .1)));
+        disagreement = d;
+      }
+
+  judges-incomplete : (n : ℕ) → ¬ Complete rowsOf lengths σ → n ≡ 5 ⊎ n ≡ 6 → Judges rowsOf lengths σ n
+  judges-incomplete n nay (inl e) = judges-none n (λ p. nay (p .0)) (λ z. omega arith) (λ z. omega arith) (λ l m. absurd (omega arith))
+  judges-incomplete n nay (inr e) = judges-none n (λ p. nay (p .0)) (λ z. omega arith) (λ z. omega arith) (λ l m. absurd (omega arith))
+
+  judges-disagree : (n : ℕ) → Disagree rowsOf lengths → 7 ≤ n → n ≤ 10 → Judges rowsOf lengths σ n
+  judges-disagree n d l m = judges-none n (λ p. disagreed K d (p .1)) (λ z. omega arith) (λ z. omega arith) (λ _ _. d)
+
+  -- ---- a clean schedule
+
+  module _ (C : Clean rowsOf lengths σ) where
+    abbrev g : ℕ → ℕ
+    g = generations rowsOf lengths σ
+
+    T : Through K σ
+    T = clean-through K σ (C .through)
+
+    same : (c : ℕ) → c < rows rowsOf → g c ≡ threads.gens P H (reverse σ) c
+    same c l = generation-is K T c l
+
+    -- a schedule that shows a reuse fault to be real
+    shows : {τ : List ℕ} → threads.Complete P H τ → (¬ threads.Clean P H τ) ⊎ ((x : ℕ) × (x < rows rowsOf) × (threads.gens P H τ x ≢ threads.gens P H (reverse σ) x))
+        → Disagree rowsOf lengths
+    shows {τ} c (inl n) = unclean (reverse τ) (complete-from K c) (λ D. n (subst (threads.Clean P H) (reverse-reverse τ) (clean-to K D)))
+    shows (threads.stopped {τ} L stop) (inr (x, l, n)) =
+        let c = complete-from K (threads.stopped L stop) in
+        let R = legal-through K (reverse τ) (subst (threads.Legal P H) (sym (reverse-reverse τ)) L) in
+        schedules.unlike (reverse τ) σ c (stopped (C .through) (C .stops)) x l
+        (λ e. n (ap (λ (l : List ℕ). threads.gens P H l x) (sym (reverse-reverse τ)) ∙ sym (generation-is K R x l) ∙ e ∙ same x l))
+    shows (threads.mismatched {τ} {t} L st m) (inr _) =
+        unclean (reverse (t ∷ τ)) (complete-from K (threads.mismatched L st m))
+        (λ D. not-matching m (subst (threads.Clean P H) (reverse-reverse (t ∷ τ)) (clean-to K D) .legal .2))
+
+    judges-reuse : (c₁ c₂ : ℕ) → Reuse P g c₁ c₂ → Judges rowsOf lengths σ 10
+    judges-reuse c₁ c₂ R =
+        let (τ, c, off) = real (programs.lawful K) H (reverse σ) (clean-to K C) c₁ c₂ (reuse-same P same R) in
+        judges-disagree 10 (shows c off) (omega arith) (omega arith)
+
+    -- no reuse fault
+    module _ (none : faults rowsOf lengths g (reach P g) fault.Reuse ≡ []) where
+      settled : claims.Settled P H (reverse σ)
+      settled =
+          record {
+            clean = clean-to K C;
+            none =
+                ⊎-elim
+                (λ w.
+                let R = reuse-same P (λ c l. sym (same c l)) (w .2) in
+                clashing (reuse-is K g (w .0) (w .1) (R .succeeds .low₁) (R .succeeds .low₂) .1 R)
+                (no-faults rowsOf lengths g (reach P g) fault.Reuse none (w .1) (w .0) (R .succeeds .low₂) (R .succeeds .low₁)))
+                (λ N. N)
+                (decided P (threads.gens P H (reverse σ)));
+          }
+
+      agree : Agree rowsOf lengths
+      agree = agree-from K (agreement (programs.lawful K) H (reverse σ) (clean-to K C) .1 (settled .none))
+
+      -- two accesses stand in the same order in all schedules exactly when one reaches the other
+      ordered : (x y : ℕ) → x < rows rowsOf → y < rows rowsOf → x ≢ y → conflict rowsOf x y ≡ true
+          → claims.SameOrder P H x y ↔ (Reaches P g x y ⊎ Reaches P g y x)
+      ordered x y lx ly ne c =
+          let (ax, ay) = accesses rowsOf x y c in
+          let (to, from) = one-order (programs.lawful K) H (reverse σ) settled x y lx ly ax ay ne in
+          let back = λ (c : ℕ) (l : c < rows rowsOf). sym (same c l) in (
+            (λ s. ⊎-elim (λ r. inl (reaches-same P back r)) (λ r. inr (reaches-same P back r)) (to s)),
+            (λ e. from (⊎-elim (λ r. inl (reaches-same P same r)) (λ r. inr (reaches-same P same r)) e))
+          )
+
+      judges-race : (x y : ℕ) → x < rows rowsOf → y < rows rowsOf → race rowsOf lengths (reach P g) x y ≡ true → Judges rowsOf lengths σ 11
+      judges-race x y lx ly e =
+          let (l, c, _, a, b) = race-is K g x y lx ly .0 e in
+          let ne : x ≢ y = λ q. omega arith in
+          record {
+            agreement = ((λ _. (stopped (C .through) (C .stops), agree)), λ _. inr refl);
+            order =
+                ((λ z. absurd (omega arith)),
+                 λ p. ⊎-elim (λ r. absurd (a r)) (λ r. absurd (b r)) (ordered x y lx ly ne c .0 (order-to K agree x y lx ly (p .2 x y lx ly ne c))));
+            disagreement = λ l m. absurd (omega arith);
+          }
+
+      judges-clear : faults rowsOf lengths g (reach P g) fault.Race ≡ [] → Judges rowsOf lengths σ 0
+      judges-clear no-race =
+          record {
+            agreement = ((λ _. (stopped (C .through) (C .stops), agree)), λ _. inl refl);
+            order =
+                ((λ _. (stopped (C .through) (C .stops), agree,
+                 λ x y lx ly ne c. order-from K agree x y lx ly (ordered x y lx ly ne c .1 (reaches-either K g no-race x y lx ly ne c)))),
+                 λ _. refl);
+            disagreement = λ l m. absurd (omega arith);
+          }
