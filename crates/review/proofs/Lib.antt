@@ -2,3 +2,6 @@
 pub mod Programs
 pub mod Phases
 pub mod Waits
+pub mod Few
+pub mod Ties
+pub mod Tied
