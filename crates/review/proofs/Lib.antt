@@ -1,4 +1,5 @@
--- Read in this order: Programs (the tables as a program with threads); Phases and Waits (what the kept barriers and waits stand for, and one step of them).
+-- Read in this order: Programs (the tables as a program with threads); Phases and Waits (what kept barriers and waits stand for); Few (how long a
+-- schedule is); Ties (the kept state beside the machine's, and what each says of the other); Tied (one step of both).
 pub mod Programs
 pub mod Phases
 pub mod Waits

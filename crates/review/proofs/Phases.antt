@@ -1,6 +1,6 @@
 -- What a kept barrier is in the machine: its open generation. A command that registers changes both alike. Assumes nothing.
 use mathlib.Core.Path.{_≡_, refl, sym, ap, _∙_}
-use mathlib.Core.Logic.{by-cases, ⊎-elim, _⊎_, inl, inr, _≢_}
+use mathlib.Core.Logic.{by-cases, _⊎_, inl, inr, _≢_}
 use mathlib.Core.Bool.{true, false, not}
 use Prim.Native.Nat.{ℕ, suc, _+_, _≤_, _<_}
 use native.Mathlib.Decide.{ℕ-discrete}
@@ -59,7 +59,8 @@ module _ {P : Program} {s : State} (G : Good P s) {c : ℕ} (by-count : (d : ℕ
 
   pub matching : {v : Phase} → PhaseIs P s (barrier c) v → refuses v (count c) ≡ false → Matches P s c
   unfolding registered
-  matching (is-unset e) f r d h = absurd (omega (arith, tally-pos size (member P s (barrier c) (suc (s .done (barrier c)))) d (G .low d (h .run)) (member-in h)))
+  matching (is-unset e) f r d h =
+      absurd (omega (arith, tally-pos size (member P s (barrier c) (suc (s .done (barrier c)))) d (G .low d (h .run)) (member-in h)))
   matching (is-expecting e l alike) f r d h = by-count d ∙ ap (λ (n : ℕ). not (eqb n (count c))) (alike d h) ∙ f
 
   pub mismatching : {v : Phase} → PhaseIs P s (barrier c) v → registers c ≡ true → refuses v (count c) ≡ true → Mismatch P s c
@@ -109,7 +110,7 @@ module _ {P : Program} (W : Lawful P) {s : State} (G : Good P s) {c : ℕ} (A : 
     completes-is = ap (λ (n : ℕ). eqb n (count c)) (add-one _ ∙ ap suc (so-far (B .phase)))
 
     pub barrier-full : completes P s c ≡ true → BarrierIs P s′ b (unset (v .done + 1))
-    barrier-full f = record { done = omega (arith, B .done, d); phase = is-unset (none-registered none) }
+    barrier-full f = record { done = omega (arith, d); phase = is-unset (none-registered none) }
       where
         d : s′ .done b ≡ suc (s .done b)
         d = done-more P s c b reg refl f

@@ -1,19 +1,21 @@
 -- Tables that pass are a lawful program, and their lengths are its threads. Assumes nothing.
 use mathlib.Core.Path.{_≡_, sym, ap}
-use mathlib.Core.Bool.{not}
+use mathlib.Core.Bool.{true, not}
 use mathlib.Core.List.{List}
-use Prim.Native.Nat.{ℕ}
+use Prim.Native.Nat.{ℕ, _<_}
 use native.Mathlib.Omega.{arith}
 use lib.Dec.{eqb, leb}
 use lib.ListN.{length}
 use borrow.Author.Tests.{eqb-true, eqb-false, eq-eqb, leb-true, not-false}
-use Rattle.tables.specs.Rows.{kind, count, arrive, sync, firstRow, endRow, threadOf}
+use Rattle.tables.specs.Limits.{barriers}
+use Rattle.tables.specs.Rows.{rows, kind, name, count, arrive, sync, firstRow, endRow, threadOf}
 use Rattle.tables.specs.Rules.{Keeps}
 use Rattle.tables.proofs.Rows.{home, only}
 use Rattle.tables.proofs.Rules.{row-barrier}
 use Rattle.relation.proofs.Truth.{same-test}
 use Rattle.schedules.specs.Machine.{Lawful}
 use Rattle.schedules.specs.Threads.{Threads}
+use Rattle.review.specs.Step.{registers}
 use Rattle.review.specs.Order.{program}
 
 turned : (m n : ℕ) → eqb m n ≡ eqb n m
@@ -28,6 +30,10 @@ module _ {commands lengths : List ℕ} (K : Keeps commands lengths) where
         clash-sym = λ c d. ap not (turned (count commands c) (count commands d));
         clash-count = λ c d e. eqb-true (count commands c) (count commands d) (not-false _ e);
       }
+
+  -- what registers names a barrier
+  pub named : (c : ℕ) → c < rows commands → registers commands c ≡ true → name commands c < barriers
+  named c l r = row-barrier _ _ _ (K .each-row c l) (leb-true _ _ r) .1
 
   abbrev pub threads : Threads (program commands lengths)
   threads =

@@ -2,20 +2,19 @@
 use mathlib.Core.Path.{_≡_, refl, sym, ap, _∙_, subst}
 use mathlib.Core.Logic.{by-cases, ⊎-elim, _≢_}
 use mathlib.Core.Bool.{Bool, true, false}
-use mathlib.Core.List.{List, _∷_, map}
-use Prim.Native.Nat.{ℕ, suc, _+_, _≤_, _<_}
+use mathlib.Core.List.{List, _∷_}
+use Prim.Native.Nat.{ℕ, _+_, _<_}
 use native.Mathlib.Decide.{ℕ-discrete}
 use native.Mathlib.Omega.{arith}
 use lib.Dec.{eqb}
 use lib.ListN.{length, getD, set, length-set, length-map, List·getD-map}
 use lib.Seq.{getD-set-same, getD-set-other}
-use borrow.Author.Tests.{eq-eqb, ne-eqb, leb-true}
+use borrow.Author.Tests.{eq-eqb, ne-eqb}
 use Rattle.tables.specs.Limits.{mostThreads, barriers}
 use Rattle.tables.specs.Rows.{name, count, firstRow}
 use Rattle.tables.specs.Rules.{Keeps}
-use Rattle.tables.proofs.Rules.{row-barrier}
-use Rattle.relation.proofs.Truth.{clashing, split, isnt}
-use Rattle.schedules.specs.Machine.{Program, State, Member, Mismatch, Matches, completes, next, state}
+use Rattle.relation.proofs.Truth.{clashing, split}
+use Rattle.schedules.specs.Machine.{Program, State, Mismatch, Matches, completes, next, state}
 use Rattle.schedules.specs.Threads.{Threads, at, after, gens, Steps}
 use Rattle.schedules.proofs.Logs.{Allowed}
 use Rattle.schedules.proofs.Step.{gen-same, gen-idle, done-kept}
@@ -31,10 +30,10 @@ use Rattle.review.specs.State.{run, waiting, barrierAt, advanced, stored
 use Rattle.review.specs.Step.{registers, syncs, allowed, command, registering, running, stepped}
 use Rattle.review.specs.Step as step
 use Rattle.review.specs.Order.{program}
-use Rattle.review.proofs.Programs.{lawful, threads}
+use Rattle.review.proofs.Programs.{lawful, named, threads}
 use Rattle.review.proofs.Phases.{BarrierIs, matching, mismatching, barrier-other, completes-is, barrier-full, barrier-more}
 use Rattle.review.proofs.Waits.{WaitIs, wait-other, wait-freed, wait-gone, wait-on}
-use Rattle.review.proofs.Ties.{Tie, Stands, command-is, steps-allowed, waits-not, command-row}
+use Rattle.review.proofs.Ties.{Stands, command-is, steps-allowed, waits-not}
 
 -- who waits for w does so no more
 getD-released : (w : ℕ) (l : List ℕ) (u : ℕ) → w ≢ 0 → getD (released w l) u 0 ≡ letGo w (getD l u 0)
@@ -62,10 +61,10 @@ module _ (s : Replay) (t c : ℕ) (sync : Bool) (b n : ℕ) where
   more-is e f = rw (e, f)
 
 module _ {commands lengths : List ℕ} (K : Keeps commands lengths) where
-  abbrev pub P : Program
+  abbrev P : Program
   P = program commands lengths
 
-  abbrev pub H : Threads P
+  abbrev H : Threads P
   H = threads K
 
   pub not-allowed : (s : Replay) (t : ℕ) → allowed lengths s t ≡ false → stepped commands lengths s t ≡ record { after = s; did = NotAllowed }
@@ -93,7 +92,7 @@ module _ {commands lengths : List ℕ} (K : Keeps commands lengths) where
     A = may H (stand H υ (S .legal)) st
 
     few : t < mostThreads
-    few = omega (arith, st .exists, K .few-threads)
+    few = omega arith
 
     runs-it : stepped commands lengths s t ≡ running commands s t c
     unfolding stepped
@@ -102,6 +101,12 @@ module _ {commands lengths : List ℕ} (K : Keeps commands lengths) where
     registers-it : registers commands c ≡ true → running commands s t c ≡ registering s t c (syncs commands c) (name commands c) (count commands c)
     unfolding running
     registers-it reg = rw reg
+
+    there : registers commands c ≡ true → name commands c < barriers
+    there = named K c (A .low)
+
+    its-barrier : registers commands c ≡ true → BarrierIs P σ (name commands c) (barrierAt s (name commands c))
+    its-barrier reg = S .tie .barrier (name commands c) (there reg)
 
     -- ---- a command that matches
 
@@ -135,8 +140,8 @@ module _ {commands lengths : List ℕ} (K : Keeps commands lengths) where
           command′ : (u : ℕ) → u < length lengths → firstRow lengths u + getD (set (s .next) t (run s t + 1)) u 0 ≡ at P H (t ∷ υ) u
           command′ u l =
               by-cases (ℕ-discrete t u)
-              (λ (e : t ≡ u). rw (sym e)
-              (omega (arith, getD-set-same (s .next) t (run s t + 1) 0 (omega (arith, few, S .tie .next-long)), at-same H υ t, command-is K S t (st .exists))))
+              (λ (e : t ≡ u).
+              rw (sym e) (omega (arith, getD-set-same (s .next) t (run s t + 1) 0 (omega (arith, few)), at-same H υ t, command-is K S t (st .exists))))
               (λ (n : t ≢ u). omega (arith, getD-set-other (s .next) t u (run s t + 1) 0 (λ e. n (sym e)), at-other H υ t u n, command-is K S u l))
 
       -- where no generation completes, the others wait as before
@@ -164,18 +169,15 @@ module _ {commands lengths : List ℕ} (K : Keeps commands lengths) where
         abbrev v : Barrier
         v = barrierAt s (name commands c)
 
-        there : b < barriers
-        there = row-barrier _ _ _ (K .each-row c (A .low)) (leb-true _ _ reg) .1
-
         B : BarrierIs P σ b v
-        B = S .tie .barrier b there
+        B = its-barrier reg
 
         -- the barriers, where b is v′
         all-barriers : (v′ : Barrier) → BarrierIs P (next P σ c) b v′ → (a : ℕ) → a < barriers
             → BarrierIs P (next P σ c) a (getD (set (s .barriers) b v′) a (unset 0))
         all-barriers v′ B′ a l =
             by-cases (ℕ-discrete b a)
-            (λ (e : b ≡ a). rw (sym e, getD-set-same (s .barriers) b v′ (unset 0) (omega (arith, there, S .tie .barriers-long))) B′)
+            (λ (e : b ≡ a). rw (sym e, getD-set-same (s .barriers) b v′ (unset 0) (omega (arith, there reg))) B′)
             (λ (n : b ≢ a). rw (getD-set-other (s .barriers) b a v′ (unset 0) (λ e. n (sym e)))
             (barrier-other (lawful K) G A m (λ k h. n (h .at)) (S .tie .barrier a l)))
 
@@ -203,8 +205,9 @@ module _ {commands lengths : List ℕ} (K : Keeps commands lengths) where
               others u l n =
                   by-cases (ℕ-discrete (waiting s u) (b + 1))
                   (λ (e : waiting s u ≡ b + 1). rw (now u, eq-eqb _ _ e) (wait-freed (lawful K) (S .legal) st m n reg f e (S .tie .wait u l)))
-                  (λ (d : waiting s u ≢ b + 1). rw (now u, ne-eqb _ _ d)
-                  (wait-other (lawful K) (S .legal) st m n (λ a w. done-kept P σ c a (λ _ q. absurd (d (w ∙ ap (λ (a : ℕ). a + 1) (sym q))))) (S .tie .wait u l)))
+                  (λ (d : waiting s u ≢ b + 1).
+                  let kept : (a : ℕ) → waiting s u ≡ a + 1 → next P σ c .done a ≡ σ .done a = λ a w. done-kept P σ c a (λ r q. absurd (omega arith)) in
+                  rw (now u, ne-eqb _ _ d) (wait-other (lawful K) (S .legal) st m n kept (S .tie .wait u l)))
 
           part : completes P σ c ≡ false → Outcome υ s t
           part f =
@@ -224,26 +227,26 @@ module _ {commands lengths : List ℕ} (K : Keeps commands lengths) where
               go false y = tied (s .waits) _ (S .tie .waits-long) (barriers-long v′) (own-gone (λ z. clashing z y)) (as-before kept) bars
               go true y =
                   tied (set (s .waits) t (b + 1)) _ (length-set (s .waits) t (b + 1) ∙ S .tie .waits-long) (barriers-long v′)
-                  (rw (getD-set-same (s .waits) t (b + 1) 0 (omega (arith, few, S .tie .waits-long))) (wait-on (lawful K) (S .legal) st m y (kept b)))
+                  (rw (getD-set-same (s .waits) t (b + 1) 0 (omega (arith, few))) (wait-on (lawful K) (S .legal) st m y (kept b)))
                   (λ u l n. rw (getD-set-other (s .waits) t u (b + 1) 0 (λ e. n (sym e))) (as-before kept u l n))
                   bars
 
     -- ---- and one that does not
 
-    clashes : registers commands c ≡ true → refuses (barrierAt s (name commands c) .phase) (count commands c) ≡ true → Mismatch P σ c → Outcome υ s t
-    clashes reg e w =
+    clashes : registers commands c ≡ true → refuses (barrierAt s (name commands c) .phase) (count commands c) ≡ true → Outcome υ s t
+    clashes reg e =
         let is = runs-it ∙ registers-it reg ∙ clash-is s t c (syncs commands c) (name commands c) (count commands c) e in
-        mismatched (ap (λ (r : Stepped). r .did) is) (ap (λ (r : Stepped). r .after) is) w
+        mismatched (ap (λ (r : Stepped). r .did) is) (ap (λ (r : Stepped). r .after) is) (mismatching G (λ d. refl) (its-barrier reg .phase) reg e)
+
+    matched : registers commands c ≡ true → refuses (barrierAt s (name commands c) .phase) (count commands c) ≡ false → Outcome υ s t
+    matched reg e =
+        let m = matching G (λ d. refl) (its-barrier reg .phase) e in
+        ⊎-elim (full m reg e) (part m reg e) (split (completes P σ c))
 
     taken : Outcome υ s t
     taken =
         ⊎-elim
-        (λ (reg : registers commands c ≡ true).
-        let there = row-barrier _ _ _ (K .each-row c (A .low)) (leb-true _ _ reg) .1 in
-        let φ = S .tie .barrier (name commands c) there .phase in
-        ⊎-elim (λ e. clashes reg e (mismatching G (λ d. refl) φ reg e))
-        (λ e. let m = matching G (λ d. refl) φ e in ⊎-elim (full m reg e) (part m reg e) (split (completes P σ c)))
-        (split (refuses (barrierAt s (name commands c) .phase) (count commands c))))
+        (λ (reg : registers commands c ≡ true). ⊎-elim (clashes reg) (matched reg) (split (refuses (barrierAt s (name commands c) .phase) (count commands c))))
         (λ (f : registers commands c ≡ false). idle (λ r. clashing r f) f)
         (split (registers commands c))
 

@@ -1,5 +1,5 @@
 -- The kept replay state and the machine's state after the same steps: what each says of the other. Assumes nothing.
-use mathlib.Core.Path.{_≡_, refl, sym, ap, _∙_}
+use mathlib.Core.Path.{_≡_}
 use mathlib.Core.Logic.{by-cases, _≢_}
 use mathlib.Core.Bool.{true, false}
 use mathlib.Core.List.{List, []}
@@ -8,13 +8,11 @@ use native.Mathlib.Decide.{ℕ-discrete}
 use native.Mathlib.Omega.{arith}
 use lib.Dec.{ltb}
 use lib.ListN.{length, getD, replicate, length-replicate, getD-replicate}
-use borrow.Author.Tests.{ltb-true, lt-ltb, eqb-true, eqb-false, eq-eqb, leb-true, not-true, not-false}
+use borrow.Author.Tests.{ltb-true, lt-ltb, eqb-true, eqb-false, eq-eqb, not-true, not-false}
 use Rattle.tables.specs.Limits.{mostRows, mostThreads, barriers}
 use Rattle.tables.specs.Rows.{rows, threadOf}
 use Rattle.tables.specs.Rules.{Keeps}
-use Rattle.tables.proofs.Rules.{row-barrier}
 use Rattle.relation.proofs.Truth.{same-test, both, pair}
-use Rattle.schedules.specs.Tally.{tally}
 use Rattle.schedules.specs.Machine.{Program, registered, member, state}
 use Rattle.schedules.specs.Threads.{Threads, at, after, Blocked, Steps, Legal}
 use Rattle.schedules.proofs.Tally.{tally-most}
@@ -24,16 +22,16 @@ use Rattle.review.specs.State.{start, run, waiting, barrierAt}
 use Rattle.review.specs.Step.{allowed, command, Counts}
 use Rattle.review.specs.Ending.{isBlocked, barrierSet, Ends}
 use Rattle.review.specs.Order.{program}
-use Rattle.review.proofs.Programs.{lawful, threads}
+use Rattle.review.proofs.Programs.{lawful, named, threads}
 use Rattle.review.proofs.Phases.{BarrierIs, barrier-start, so-far, unset-none, none-unset, none-registered}
 use Rattle.review.proofs.Waits.{WaitIs, held-blocked, wait-start}
 use Rattle.review.proofs.Few.{legal-few, done-few}
 
 module _ {commands lengths : List ℕ} (K : Keeps commands lengths) where
-  abbrev pub P : Program
+  abbrev P : Program
   P = program commands lengths
 
-  abbrev pub H : Threads P
+  abbrev H : Threads P
   H = threads K
 
   pub record Tie (υ : List ℕ) (s : Replay) : Type 0 where
@@ -66,14 +64,12 @@ module _ {commands lengths : List ℕ} (K : Keeps commands lengths) where
       }
     where
       zeros : (t : ℕ) → t < length lengths → getD (replicate {A = ℕ} mostThreads 0) t 0 ≡ 0
-      zeros t l = getD-replicate mostThreads t 0 0 (omega (arith, K .few-threads))
+      zeros t l = getD-replicate mostThreads t 0 0 (omega arith)
 
   -- a barrier past the last has no command
   pub no-barrier : (υ : List ℕ) → Legal P H υ → (b : ℕ) → barriers ≤ b → registered P (after P H υ) b (suc (after P H υ .done b)) ≡ 0
   no-barrier υ L b past =
-      none-registered (λ d h.
-      let l = good-after H (lawful K) υ L .low d (h .run) in
-      omega (arith, h .at, row-barrier _ _ _ (K .each-row d l) (leb-true _ _ (h .reg)) .1))
+      none-registered (λ d h. omega (arith, h .at, named K d (good-after H (lawful K) υ L .low d (h .run)) (h .reg)))
 
   module _ {υ : List ℕ} {s : Replay} (S : Stands υ s) where
     -- ---- whether a thread may step
@@ -99,7 +95,7 @@ module _ {commands lengths : List ℕ} (K : Keeps commands lengths) where
     pub steps-allowed : (t : ℕ) → Steps P H υ t → allowed lengths s t ≡ true
     unfolding allowed
     steps-allowed t st =
-        let more : run s t < getD lengths t 0 = omega (arith, st .left, command-is t (st .exists)) in
+        let more : run s t < getD lengths t 0 = omega (arith, command-is t (st .exists)) in
         pair _ _ (lt-ltb _ _ (st .exists)) (pair _ _ (lt-ltb _ _ more) (eq-eqb _ _ (waits-not st)))
 
     pub command-row : (t : ℕ) → Steps P H υ t → at P H υ t < rows commands
@@ -131,17 +127,17 @@ module _ {commands lengths : List ℕ} (K : Keeps commands lengths) where
     counts b l =
         let B = S .tie .barrier b l in
         record {
-          got = omega (arith, so-far (B .phase), tally-most (rows commands) (member P (after P H υ) b (suc (after P H υ .done b))), K .few-rows);
-          done = omega (arith, B .done, done-few K υ b, legal-few K υ (S .legal), K .few-rows);
+          got = omega (arith, so-far (B .phase), tally-most (rows commands) (member P (after P H υ) b (suc (after P H υ .done b))));
+          done = omega (arith, done-few K υ b, legal-few K υ (S .legal));
         }
 
     pub ends : Ends lengths s
     ends =
         record {
           few-threads = K .few-threads;
-          few-rows = omega (arith, K .adds-up, K .few-rows);
+          few-rows = omega arith;
           has-run =
               λ t l e.
               let h = S .tie .wait t l .held (eqb-false _ _ (not-true _ e)) in
-              omega (arith, h .is-last, h .own, command-is t l);
+              omega (arith, command-is t l);
         }

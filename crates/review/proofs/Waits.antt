@@ -1,16 +1,15 @@
 -- What a kept wait is in the machine: whether a thread is blocked, and where. A step changes both alike. Assumes nothing.
-use mathlib.Core.Path.{_≡_, refl, sym, ap, _∙_}
+use mathlib.Core.Path.{_≡_, refl, sym, _∙_}
 use mathlib.Core.Logic.{_≢_}
-use mathlib.Core.Bool.{true, false}
+use mathlib.Core.Bool.{true}
 use mathlib.Core.List.{List, [], _∷_}
-use Prim.Native.Nat.{ℕ, suc, _+_, _≤_, _<_}
+use Prim.Native.Nat.{ℕ, suc, _+_, _≤_}
 use native.Mathlib.Nat.{suc-inj}
 use native.Mathlib.Omega.{arith}
-use Rattle.relation.proofs.Truth.{clashing}
 use Rattle.schedules.specs.Machine.{Program, Lawful, State, Open, Matches, completes, next, state, Ready}
 use Rattle.schedules.specs.Threads.{Threads, at, commands, after, Blocked, Steps, Legal}
 use Rattle.schedules.proofs.Logs.{Allowed}
-use Rattle.schedules.proofs.Step.{ran-same, ran-kept, gen-same, done-more}
+use Rattle.schedules.proofs.Step.{ran-same, gen-same, done-more}
 use Rattle.schedules.proofs.Good.{Good, ready-kept, member-kept, joins}
 use Rattle.schedules.proofs.Threads.{stand, may, good-after, at-same, at-other}
 
@@ -35,11 +34,11 @@ module _ {P : Program} {H : Threads P} where
   open Program P using (syncs, registers, barrier)
 
   pub held-blocked : {υ : List ℕ} {t w : ℕ} → Held P H υ t w → Blocked P H υ t
-  held-blocked h = record { last = h .last; is-last = h .is-last; own = h .own; unready = λ r. omega (arith, r .freed (h .sync), h .waits .gen) }
+  held-blocked h = record { last = h .last; is-last = h .is-last; own = h .own; unready = λ r. omega (arith, r .freed (h .sync)) }
 
   pub wait-start : (t : ℕ) → WaitIs P H [] t 0
   unfolding at
-  wait-start t = record { free = λ _ B. omega (arith, B .is-last, B .own); held = λ n. absurd (n refl) }
+  wait-start t = record { free = λ _ B. omega arith; held = λ n. absurd (n refl) }
 
   -- ---- thread t steps
 
@@ -82,7 +81,8 @@ module _ {P : Program} {H : Threads P} where
             }
 
     -- another thread that waits where t completes the barrier
-    pub wait-freed : {u w : ℕ} → t ≢ u → registers c ≡ true → completes P s c ≡ true → w ≡ barrier c + 1 → WaitIs P H υ u w → WaitIs P H (t ∷ υ) u 0
+    pub wait-freed : {u w : ℕ} → t ≢ u → registers c ≡ true → completes P s c ≡ true → w ≡ barrier c + 1 → WaitIs P H υ u w
+        → WaitIs P H (t ∷ υ) u 0
     unfolding commands state
     wait-freed {u} {w} n r f e x = record { free = λ _ B. B .unready (ready B); held = λ nz. absurd (nz refl) }
       where
@@ -94,7 +94,7 @@ module _ {P : Program} {H : Threads P} where
             let is : h .last ≡ B .last = suc-inj (sym (h .is-last) ∙ sym (at-other H υ t u n) ∙ B .is-last) in
             let here : barrier c ≡ barrier (h .last) = omega (arith, h .there) in
             let k = member-kept W G A m (h .waits) in
-            rw (sym is) (record { run = k .run; freed = λ _. omega (arith, k .gen, done-more P s c (barrier (h .last)) r here f) })
+            rw (sym is) (record { run = k .run; freed = λ _. omega (arith, done-more P s c (barrier (h .last)) r here f) })
 
     -- t itself, after a command that is no sync or that completes its barrier
     pub wait-gone : (syncs c ≡ true → completes P s c ≡ true) → WaitIs P H (t ∷ υ) t 0
