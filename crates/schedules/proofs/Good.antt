@@ -55,14 +55,14 @@ module _ {P : Program} (W : Lawful P) {s : State} (G : Good P s) {c : ℕ} (A : 
   apart-from : (x : ℕ) → s .ran x ≡ true → c ≢ x
   apart-from x e q = clashing e (rw q at (A .fresh))
 
-  ready-kept : (y : ℕ) → Ready P s y → Ready P s′ y
+  pub ready-kept : (y : ℕ) → Ready P s y → Ready P s′ y
   ready-kept y r =
       record {
         run = ran-kept P s c y (r .run);
         freed = λ z. rw (gen-other P s c y (apart-from y (r .run))) (omega (arith, r .freed z, done-up P s c (barrier y)));
       }
 
-  member-kept : {b k x : ℕ} → Member P s b k x → Member P s′ b k x
+  pub member-kept : {b k x : ℕ} → Member P s b k x → Member P s′ b k x
   member-kept {x = x} h =
       record { run = ran-kept P s c x (h .run); reg = h .reg; at = h .at; gen = gen-other P s c x (apart-from x (h .run)) ∙ h .gen }
 

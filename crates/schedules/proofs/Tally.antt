@@ -26,6 +26,11 @@ unfolding tally
 tally-le zero p q h = omega arith
 tally-le (suc n) p q h = omega (arith, bit-le (p n) (q n) (h n (omega arith)), tally-le n p q (λ i l. h i (omega arith)))
 
+pub tally-most : (n : ℕ) (p : ℕ → Bool) → tally n p ≤ n
+unfolding tally
+tally-most zero p = omega arith
+tally-most (suc n) p = omega (arith, bit-le (p n) true (λ _. refl), tally-most n p)
+
 -- where there are as many of either, q's are among p's too
 pub tally-full : (n : ℕ) (p q : ℕ → Bool) → Within n p q → tally n q ≤ tally n p → Within n q p
 unfolding tally
