@@ -87,14 +87,14 @@ module _ {rowsOf lengths : List ℕ} (K : Keeps rowsOf lengths) (σ : List ℕ) 
     shows : {τ : List ℕ} → threads.Complete P H τ → (¬ threads.Clean P H τ) ⊎ ((x : ℕ) × (x < rows rowsOf) × (threads.gens P H τ x ≢ threads.gens P H (reverse σ) x))
         → Disagree rowsOf lengths
     shows {τ} c (inl n) = unclean (reverse τ) (complete-from K c) (λ D. n (subst (threads.Clean P H) (reverse-reverse τ) (clean-to K D)))
-    shows (threads.stopped {τ} L stop) (inr (x, l, n)) =
+    shows {τ} (threads.stopped L stop) (inr (x, l, n)) =
         let c = complete-from K (threads.stopped L stop) in
         let R = legal-through K (reverse τ) (subst (threads.Legal P H) (sym (reverse-reverse τ)) L) in
         schedules.unlike (reverse τ) σ c (stopped (C .through) (C .stops)) x l
         (λ e. n (ap (λ (l : List ℕ). threads.gens P H l x) (sym (reverse-reverse τ)) ∙ sym (generation-is K R x l) ∙ e ∙ same x l))
-    shows (threads.mismatched {τ} {t} L st m) (inr _) =
-        unclean (reverse (t ∷ τ)) (complete-from K (threads.mismatched L st m))
-        (λ D. not-matching m (subst (threads.Clean P H) (reverse-reverse (t ∷ τ)) (clean-to K D) .legal .2))
+    shows (threads.mismatched {υ} {t} L st m) (inr _) =
+        unclean (reverse (t ∷ υ)) (complete-from K (threads.mismatched L st m))
+        (λ D. not-matching m (subst (threads.Clean P H) (reverse-reverse (t ∷ υ)) (clean-to K D) .legal .2))
 
     judges-reuse : (c₁ c₂ : ℕ) → Reuse P g c₁ c₂ → Judges rowsOf lengths σ 10
     judges-reuse c₁ c₂ R =
@@ -126,9 +126,9 @@ module _ {rowsOf lengths : List ℕ} (K : Keeps rowsOf lengths) (σ : List ℕ) 
       ordered x y lx ly ne c =
           let (ax, ay) = accesses rowsOf x y c in
           let (to, from) = one-order (programs.lawful K) H (reverse σ) settled x y lx ly ax ay ne in
-          let back = λ (c : ℕ) (l : c < rows rowsOf). sym (same c l) in (
+          let back : (c : ℕ) → c < rows rowsOf → threads.gens P H (reverse σ) c ≡ g c = λ c l. sym (same c l) in (
             (λ s. ⊎-elim (λ r. inl (reaches-same P back r)) (λ r. inr (reaches-same P back r)) (to s)),
-            (λ e. from (⊎-elim (λ r. inl (reaches-same P same r)) (λ r. inr (reaches-same P same r)) e))
+            (λ e. from (⊎-elim (λ r. inl (reaches-same P same r)) (λ r. inr (reaches-same P same r)) e)),
           )
 
       judges-race : (x y : ℕ) → x < rows rowsOf → y < rows rowsOf → race rowsOf lengths (reach P g) x y ≡ true → Judges rowsOf lengths σ 11
@@ -137,9 +137,10 @@ module _ {rowsOf lengths : List ℕ} (K : Keeps rowsOf lengths) (σ : List ℕ) 
           let ne : x ≢ y = λ q. omega arith in
           record {
             agreement = ((λ _. (stopped (C .through) (C .stops), agree)), λ _. inr refl);
-            order =
-                ((λ z. absurd (omega arith)),
-                 λ p. ⊎-elim (λ r. absurd (a r)) (λ r. absurd (b r)) (ordered x y lx ly ne c .0 (order-to K agree x y lx ly (p .2 x y lx ly ne c))));
+            order = (
+              (λ z. absurd (omega arith)),
+              λ p. ⊎-elim (λ r. absurd (a r)) (λ r. absurd (b r)) (ordered x y lx ly ne c .0 (order-to K agree x y lx ly (p .2 x y lx ly ne c))),
+            );
             disagreement = λ l m. absurd (omega arith);
           }
 
@@ -147,9 +148,13 @@ module _ {rowsOf lengths : List ℕ} (K : Keeps rowsOf lengths) (σ : List ℕ) 
       judges-clear no-race =
           record {
             agreement = ((λ _. (stopped (C .through) (C .stops), agree)), λ _. inl refl);
-            order =
-                ((λ _. (stopped (C .through) (C .stops), agree,
-                 λ x y lx ly ne c. order-from K agree x y lx ly (ordered x y lx ly ne c .1 (reaches-either K g no-race x y lx ly ne c)))),
-                 λ _. refl);
+            order = (
+              (λ _. (
+                stopped (C .through) (C .stops),
+                agree,
+                λ x y lx ly ne c. order-from K agree x y lx ly (ordered x y lx ly ne c .1 (reaches-either K g no-race x y lx ly ne c)),
+              )),
+              λ _. refl,
+            );
             disagreement = λ l m. absurd (omega arith);
           }

@@ -33,7 +33,8 @@ use Rattle.review.specs.Step.{allowed, stepped}
 use Rattle.review.specs.Replay.{ends, goingOn, playing, played, generation}
 use Rattle.review.specs.Order.{program}
 use Rattle.review.proofs.Programs.{threads}
-use Rattle.review.proofs.Ties.{Stands, stands-start, Outcome, ran, mismatched, outcome, allowed-steps, steps-allowed, not-allowed, command-row}
+use Rattle.review.proofs.Ties.{Stands, stands-start, allowed-steps, steps-allowed, command-row}
+use Rattle.review.proofs.Tied.{Outcome, ran, mismatched, outcome, not-allowed}
 
 module _ {rowsOf lengths : List ℕ} (K : Keeps rowsOf lengths) where
   abbrev P : Program

@@ -29,8 +29,8 @@ use Rattle.review.specs.Replay.{goingOn, playing, played, generation}
 use Rattle.review.specs.Order.{program}
 use Rattle.review.specs.Schedules.{Stops, Complete, stopped, mismatched, Clean, Alike}
 use Rattle.review.proofs.Programs as programs
-use Rattle.review.proofs.Ties as ties
-use Rattle.review.proofs.Ties.{Stands, allowed-steps, steps-allowed, outcome, blocked-is, unset-is, no-barrier}
+use Rattle.review.proofs.Tied as tied
+use Rattle.review.proofs.Ties.{Stands, allowed-steps, steps-allowed, blocked-is, unset-is, no-barrier}
 use Rattle.review.proofs.Plays.{Ends, Entry, through, refused-at, mismatched-at, Through, plays-all, legal-through, clean-through}
 
 -- verdicts of different numbers are not the same
@@ -90,17 +90,17 @@ module _ {rowsOf lengths : List ℕ} (K : Keeps rowsOf lengths) where
   last-entry : (ρ : List ℕ) (t : ℕ) (d : Did) → Through K ρ → stepped rowsOf lengths (played rowsOf lengths ρ .state) t .did ≡ d
       → played rowsOf lengths (ρ ++ t ∷ [])
       ≡ goingOn d (stepped rowsOf lengths (played rowsOf lengths ρ .state) t .after) (played rowsOf lengths ρ .generations) (played rowsOf lengths ρ .steps)
-        (λ g. playing rowsOf lengths [] (stepped rowsOf lengths (played rowsOf lengths ρ .state) t .after) g (played rowsOf lengths ρ .steps + 1))
+      (λ g. playing rowsOf lengths [] (stepped rowsOf lengths (played rowsOf lengths ρ .state) t .after) g (played rowsOf lengths ρ .steps + 1))
   unfolding played playing
   last-entry ρ t d T e = goes-on rowsOf lengths ρ (t ∷ []) _ _ _ (T .verdict) ∙ rw e
 
   mismatch-last : (ρ : List ℕ) (t : ℕ) → Through K ρ → threads.Steps P H (reverse ρ) t
       → machine.Mismatch P (threads.after P H (reverse ρ)) (threads.at P H (reverse ρ) t) → Complete rowsOf lengths (ρ ++ t ∷ [])
-  mismatch-last ρ t T st m = by (outcome K (T .stands) t st)
+  mismatch-last ρ t T st m = by (tied.outcome K (T .stands) t st)
     where
-      by : ties.Outcome K (reverse ρ) (played rowsOf lengths ρ .state) t → Complete rowsOf lengths (ρ ++ t ∷ [])
-      by (ties.ran q match S) = absurd (not-matching m match)
-      by (ties.mismatched q k w) =
+      by : tied.Outcome K (reverse ρ) (played rowsOf lengths ρ .state) t → Complete rowsOf lengths (ρ ++ t ∷ [])
+      by (tied.ran q match S) = absurd (not-matching m match)
+      by (tied.mismatched q k w) =
           let e = last-entry ρ t _ T q in
           mismatched (ap (λ (r : Replayed). r .verdict) e) (omega (arith, ap (λ (r : Replayed). r .steps) e, T .steps, length-append ρ (t ∷ [])))
 
