@@ -15,15 +15,18 @@ use Rattle.tables.specs.Rows.{rows, threadOf}
 use Rattle.tables.specs.Rules.{Keeps}
 use Rattle.tables.specs.Verdicts.{tell, numbered}
 use Rattle.tables.specs.declared.verdict.Told.{Told}
+use Rattle.tables.specs.declared.verdict.Verdict.{Verdict}
 use Rattle.tables.specs.declared.verdict.Verdict.the-variants as verdict
-use Rattle.tables.proofs.Lowest.{Lowest, lowest-first}
+use Rattle.tables.proofs.Lowest.{lowest-hit, lowest-miss}
 use Rattle.relation.proofs.Truth.{split, clashing, isnt, both}
+use Rattle.schedules.specs.Machine as machine
 use Rattle.schedules.specs.Machine.{Program}
 use Rattle.schedules.specs.Threads as threads
 use Rattle.schedules.specs.Order.{Reaches, Reuse, NoReuse, reach}
 use Rattle.schedules.specs.Claims as claims
 use Rattle.schedules.proofs.Tests.{not-matching}
 use Rattle.schedules.proofs.Theorems.{agreement, one-order, real, decided}
+use Rattle.review.specs.declared.state.Replay.{Replay}
 use Rattle.review.specs.declared.replay.Replayed.{Replayed}
 use Rattle.review.specs.declared.sheet.Pair.{Pair}
 use Rattle.review.specs.declared.faults.Fault.the-variants as fault
@@ -33,7 +36,7 @@ use Rattle.review.specs.InOrder.{orElse}
 use Rattle.review.specs.Replay.{played, generation}
 use Rattle.review.specs.Order.{program}
 use Rattle.review.specs.Faults.{conflict, race, faults}
-use Rattle.review.specs.Judge.{judged, faultTold, generations, reaches}
+use Rattle.review.specs.Judge.{judged, firstPair, faultTold, generations, reaches}
 use Rattle.review.specs.Schedules.{Stops, Complete, stopped, mismatched, Clean, Agree, SameOrder, Disagree, unclean}
 use Rattle.review.specs.Schedules as schedules
 use Rattle.review.specs.Agreement.{Judges}
@@ -71,6 +74,12 @@ module _ {rowsOf lengths : List ℕ} (K : Keeps rowsOf lengths) (σ : List ℕ) 
   judges-disagree : (n : ℕ) → Disagree rowsOf lengths → 7 ≤ n → n ≤ 10 → Judges rowsOf lengths σ n
   judges-disagree n d l m = judges-none n (λ p. disagreed K d (p .1)) (λ z. omega arith) (λ z. omega arith) (λ _ _. d)
 
+  -- a schedule that ends at a mismatch is complete and not clean
+  shows-mismatch : {υ : List ℕ} {t : ℕ} → threads.Legal P H υ → threads.Steps P H υ t → machine.Mismatch P (threads.after P H υ) (threads.at P H υ t) → Disagree rowsOf lengths
+  shows-mismatch {υ} {t} L st m =
+      unclean (reverse (t ∷ υ)) (complete-from K (threads.mismatched L st m))
+      (λ D. not-matching m (subst (threads.Clean P H) (reverse-reverse (t ∷ υ)) (clean-to K D) .legal .2))
+
   -- ---- a clean schedule
 
   module _ (C : Clean rowsOf lengths σ) where
@@ -92,9 +101,7 @@ module _ {rowsOf lengths : List ℕ} (K : Keeps rowsOf lengths) (σ : List ℕ) 
         let R = legal-through K (reverse τ) (subst (threads.Legal P H) (sym (reverse-reverse τ)) L) in
         schedules.unlike (reverse τ) σ c (stopped (C .through) (C .stops)) x l
         (λ e. n (ap (λ (l : List ℕ). threads.gens P H l x) (sym (reverse-reverse τ)) ∙ sym (generation-is K R x l) ∙ e ∙ same x l))
-    shows (threads.mismatched {υ} {t} L st m) (inr _) =
-        unclean (reverse (t ∷ υ)) (complete-from K (threads.mismatched L st m))
-        (λ D. not-matching m (subst (threads.Clean P H) (reverse-reverse (t ∷ υ)) (clean-to K D) .legal .2))
+    shows (threads.mismatched L st m) (inr _) = shows-mismatch L st m
 
     judges-reuse : (c₁ c₂ : ℕ) → Reuse P g c₁ c₂ → Judges rowsOf lengths σ 10
     judges-reuse c₁ c₂ R =
@@ -158,3 +165,73 @@ module _ {rowsOf lengths : List ℕ} (K : Keeps rowsOf lengths) (σ : List ℕ) 
             );
             disagreement = λ l m. absurd (omega arith);
           }
+
+    -- by the faults that are found
+    judges-clean : Judges rowsOf lengths σ (faultTold rowsOf lengths g (reach P g) .number)
+    judges-clean = by (faults rowsOf lengths g (reach P g) fault.Reuse) (faults rowsOf lengths g (reach P g) fault.Race) refl refl
+      where
+        by : (ps qs : List Pair) → faults rowsOf lengths g (reach P g) fault.Reuse ≡ ps → faults rowsOf lengths g (reach P g) fault.Race ≡ qs
+            → Judges rowsOf lengths σ (firstPair 10 ps (firstPair 11 qs (tell 0 0 0)) .number)
+        by (p ∷ ps) qs e f =
+            let (c₂, c₁, l₂, l₁, h, _) = some-fault rowsOf lengths g (reach P g) fault.Reuse p ps e in
+            judges-reuse c₁ c₂ (reuse-is K g c₁ c₂ l₁ l₂ .0 h)
+        by [] (q ∷ qs) e f =
+            let (x, y, lx, ly, h, _) = some-fault rowsOf lengths g (reach P g) fault.Race q qs f in
+            judges-race e x y lx ly h
+        by [] [] e f = judges-clear e f
+
+  -- ---- the offered schedule
+
+  abbrev s : Replay
+  s = played rowsOf lengths σ .state
+
+  -- the verdict, of tables and rooms that pass refusals 1 to 4
+  abbrev pub told : Told
+  told = orElse (judged lengths r) (faultTold rowsOf lengths (generations rowsOf lengths σ) (reaches rowsOf lengths σ))
+
+  not-complete : (v : Verdict) → r .verdict ≡ v → numbered v .number ≢ 0 → numbered v .number ≢ 7 → ¬ Complete rowsOf lengths σ
+  not-complete v e a b (stopped c _) = unlike (sym e ∙ c) a
+  not-complete v e a b (mismatched c _) = unlike (sym e ∙ c) b
+
+  -- all steps ran: it ended by 6, 8, 9, or clean
+  module _ (c : r .verdict ≡ verdict.Clean) where
+    stops : ltb (lowestAllowed lengths s) (length lengths) ≡ false → Stops rowsOf lengths σ
+    unfolding allowed
+    stops e t =
+        by-cases (decLt t (length lengths)) (λ (l : t < length lengths). lowest-miss (allowed lengths s) (length lengths) e t l)
+        (λ (n : ¬ (t < length lengths)). rw (le-ltb t (length lengths) (omega arith)))
+
+    judges-through : (a b d : Bool) → ltb (lowestAllowed lengths s) (length lengths) ≡ a → ltb (lowestBlocked lengths s) (length lengths) ≡ b
+        → ltb (lowestSet s) barriers ≡ d
+        → Judges rowsOf lengths σ
+        (orElse (cond a (tell 6 (r .steps) 0) (cond b (tell 8 (lastRun lengths s (lowestBlocked lengths s)) 0) (cond d (tell 9 (lowestSet s) 0) (tell 0 0 0))))
+        (faultTold rowsOf lengths (generations rowsOf lengths σ) (reaches rowsOf lengths σ)) .number)
+    judges-through true b d ea eb ed =
+        judges-incomplete 6 (λ C. incomplete C (lowest-hit (allowed lengths s) (length lengths) ea .1)) (inr refl)
+      where
+        incomplete : Complete rowsOf lengths σ → allowed lengths s (lowestAllowed lengths s) ≡ true → ⊥
+        incomplete (stopped _ stop) h = clashing h (stop (lowestAllowed lengths s))
+        incomplete (mismatched v _) h = unlike (sym c ∙ v) (λ z. omega arith)
+    judges-through false true d ea eb ed =
+        let (l, h) = lowest-hit (isBlocked s) (length lengths) eb in
+        judges-disagree 8 (unclean σ (stopped c (stops ea)) (λ C. clashing h (C .unblocked _ l))) (omega arith) (omega arith)
+    judges-through false false true ea eb ed =
+        let (l, h) = lowest-hit (barrierSet s) barriers ed in
+        judges-disagree 9 (unclean σ (stopped c (stops ea)) (λ C. clashing h (C .unset _ l))) (omega arith) (omega arith)
+    judges-through false false false ea eb ed =
+        judges-clean
+        (record {
+          through = c;
+          stops = stops ea;
+          unblocked = lowest-miss (isBlocked s) (length lengths) eb;
+          unset = lowest-miss (barrierSet s) barriers ed;
+        })
+
+  pub judges : Judges rowsOf lengths σ (told .number)
+  unfolding judged ended
+  judges = by (plays-all K σ)
+    where
+      by : Ends K σ [] r 0 → Judges rowsOf lengths σ (told .number)
+      by (through S G v e) = rw v (judges-through v _ _ _ refl refl refl)
+      by (refused-at e nay v) = rw v (judges-incomplete 5 (not-complete _ v (λ z. omega arith) (λ z. omega arith)) (inl refl))
+      by (mismatched-at e st m v) = rw v (judges-disagree 7 (shows-mismatch (e .stands .legal) st m) (omega arith) (omega arith))
