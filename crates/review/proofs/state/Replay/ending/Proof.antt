@@ -1,8 +1,12 @@
 -- `Replay::ending` meets its contract, by the tests in their order. Assumes nothing.
 use Prim.Native.Nat.{min}
+use native.Mathlib.Omega.{arith}
+use mir.Syntax.{w32}
+use mir.Val.{Fits}
 use borrow.Author.Needs.{needs}
 use Rattle.tables.specs.Limits.{mostRows, mostThreads, barriers}
 use Rattle.tables.proofs.Rows.{end-most}
+use Rattle.review.specs.State.{run}
 use Rattle.review.proofs.Scans.{lowest-passes}
 use Rattle.review.proofs.Endings.{ends-open, ends-blocked, ends-set, ends-clean}
 use Rattle.review.proofs.state.Replay.ending.Statement.{statement}
@@ -12,10 +16,12 @@ returns : tie.Need-returns
 returns c = ends-open _ _ _ (c .before .lowest-allowed .ensures) (c .if1 .taken)
 
 add-t16 : tie.Need-add-t16
-unfolding mostRows
+unfolding mostRows mostThreads
 add-t16 c =
     let b = c .before .before .before in
-    search (needs, end-most (b .before .before .before .before .args .lengths .now) (min (b .lowest-blocked .result) mostThreads))
+    let a = b .before .before .before .before .args in
+    let n : Fits w32 (run (a .t1) (b .lowest-blocked .result)) = search needs in
+    omega (arith, end-most (a .lengths .now) (min (b .lowest-blocked .result) mostThreads))
 
 sub-t17 : tie.Need-sub-t17
 sub-t17 c =
