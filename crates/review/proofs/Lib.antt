@@ -1,6 +1,15 @@
--- Read in this order: Programs (the tables as a program with threads); Phases and Waits (what kept barriers and waits stand for); Few (how long a
--- schedule is); Ties (the kept state beside the machine's, and what each says of the other); Tied (one step of both); Standing (what loops need); Plays (a replay); Schedules
--- (legal, complete and clean are the same for both); Writing (the schedule writer); Precede (what stands before what); Agreements; Pairs (the faults); Conflicts; Judging (demand 3).
+-- Laws, by subject, in an order that can be read.
+-- The code's loops and tests: Fronts, Scans, Registering, Steps, Endings.
+-- The kept state and the machine of `schedules`: Programs (the tables as a program with threads), Phases and Waits (what kept barriers and waits
+-- stand for), Few (how long a schedule is), Ties (the two states beside each other), Tied (one step of both), Standing (what loops need).
+-- Whole schedules: Plays (a replay), Schedules (legal, complete and clean are the same for both), Writing (the schedule writer), Precede (what stands
+-- before what), Agreements.
+-- Faults and demand 3: Pairs, Conflicts, Judging.
+pub mod Fronts
+pub mod Scans
+pub mod Registering
+pub mod Steps
+pub mod Endings
 pub mod Programs
 pub mod Phases
 pub mod Waits

@@ -9,6 +9,7 @@ use native.Mathlib.Omega.{arith}
 use lib.ListN.{length, getD, drop}
 use lib.Seq.{take-all, take-nil, drop-nil, drop-cons}
 use borrow.Author.Tests.{lt-ltb, le-ltb}
+use Rattle.tables.specs.Limits.{mostThreads}
 use Rattle.tables.specs.Rows.{total, firstRow, endRow, threadOf}
 
 pub first-none : (lengths : List ℕ) → firstRow lengths 0 ≡ 0
@@ -33,6 +34,16 @@ pub first-cut : (lengths : List ℕ) (t : ℕ) → firstRow lengths (min t (leng
 first-cut lengths t =
     by-cases (decLt t (length lengths)) (λ (m : t < length lengths). ap (firstRow lengths) (omega arith))
     (λ (m : ¬ (t < length lengths)). first-all _ _ (omega arith) ∙ sym (first-all _ _ (omega arith)))
+
+-- a thread within the limit begins where `first_row` says
+pub first-within : (lengths : List ℕ) (t : ℕ) → t ≤ mostThreads → firstRow lengths (min t mostThreads) ≡ firstRow lengths t
+first-within lengths t l = ap (firstRow lengths) (omega arith)
+
+pub end-most : (lengths : List ℕ) (t : ℕ) → endRow lengths t ≤ total lengths
+unfolding firstRow total
+end-most [] t = rw take-nil (omega arith)
+end-most (n ∷ lengths) zero = omega arith
+end-most (n ∷ lengths) (suc t) = omega (arith, end-most lengths t)
 
 -- row c stands in thread t
 pub record Home (lengths : List ℕ) (c t : ℕ) : Type 0 where
