@@ -1,10 +1,10 @@
 -- Laws, by subject, in an order that can be read.
 -- The code's loops and tests: Fronts, Scans, Registering, Steps, Endings.
 -- The kept state and the machine of `schedules`: Programs (the tables as a program with threads), Phases and Waits (what kept barriers and waits
--- stand for), Few (how long a schedule is), Ties (the two states beside each other), Tied (one step of both), Standing (what loops need).
+-- stand for), Few (how long a schedule is), Ties (the two states beside each other), Tied (one step of both), Standing and Replaying (what loops need).
 -- Whole schedules: Plays (a replay), Schedules (legal, complete and clean are the same for both), Writing (the schedule writer), Precede (what stands
 -- before what), Agreements.
--- Faults and demand 3: Pairs, Conflicts, Judging.
+-- Verdicts, faults and demand 3: Refusals, Pairs, Conflicts, Judging.
 pub mod Fronts
 pub mod Scans
 pub mod Registering
@@ -17,11 +17,13 @@ pub mod Few
 pub mod Ties
 pub mod Tied
 pub mod Standing
+pub mod Replaying
 pub mod Plays
 pub mod Schedules
 pub mod Writing
 pub mod Precede
 pub mod Agreements
+pub mod Refusals
 pub mod Pairs
 pub mod Conflicts
 pub mod Judging

@@ -8,7 +8,7 @@ use native.Mathlib.Omega.{arith}
 use lib.ListN.{length}
 use Rattle.tables.specs.Rows.{rows}
 use Rattle.tables.specs.Rules.{Keeps}
-use Rattle.relation.proofs.Truth.{split}
+use Rattle.relation.proofs.Truth.{split, clashing}
 use Rattle.schedules.specs.Threads.{Steps}
 use Rattle.review.specs.declared.state.Replay.{Replay}
 use Rattle.review.specs.declared.step.How.{How}
@@ -19,6 +19,7 @@ use Rattle.review.specs.declared.step.Stepped.{Stepped}
 use Rattle.review.specs.State.{start}
 use Rattle.review.specs.Step.{allowed, stepped, Counts}
 use Rattle.review.specs.Ending.{Ends}
+use Rattle.review.specs.Writer.{goesOn}
 use Rattle.review.specs.Order.{program}
 use Rattle.review.proofs.Programs.{threads}
 use Rattle.review.proofs.Ties.{Stands, stands-start, allowed-steps, command-row, counts, ends}
@@ -64,3 +65,12 @@ module _ {commands lengths : List ℕ} where
         by st (ran q m R) =
             (record { keeps = S .keeps; path = t ∷ S .path; stands = R }, rw (ap commandOf (sym e ∙ q)) (command-row (S .keeps) (S .stands) t st))
         by st (mismatched q k m) = absurd (let z : 2 ≡ 1 = ap kindOf (sym e ∙ q) in omega arith)
+
+    -- so does one after which a schedule goes on
+    pub standing-goes : (t : ℕ) → goesOn (stepped commands lengths s t .did) ≡ true → Standing commands lengths (stepped commands lengths s t .after)
+    standing-goes t e = by (stepped commands lengths s t .did) refl
+      where
+        by : (d : Did) → stepped commands lengths s t .did ≡ d → Standing commands lengths (stepped commands lengths s t .after)
+        by NotAllowed q = clashing e (ap goesOn q)
+        by (Took (Mismatch c)) q = clashing e (ap goesOn q)
+        by (Took (Ran c generation)) q = standing-ran t c generation q .0

@@ -7,12 +7,12 @@ use Prim.Native.Nat.{ℕ, zero, suc, _+_, _-_, _≤_, _<_}
 use native.Mathlib.Omega.{arith}
 use native.Mathlib.Numerals.{add-one}
 use lib.Dec.{ltb}
-use lib.ListN.{length, getD, set, drop, length-append}
+use lib.ListN.{length, set, drop, length-append, length-drop}
 use lib.Seq.{set-at, drop-cons}
 use borrow.Author.Tests.{lt-ltb, le-ltb}
 use Rattle.tables.specs.Rows.{rows}
 use Rattle.tables.specs.Rules.{Keeps}
-use Rattle.tables.proofs.Lowest.{lowest-hit, lowest-miss}
+use Rattle.tables.proofs.Lowest.{lowest-first, lowest-hit, lowest-miss}
 use Rattle.relation.proofs.Truth.{split, clashing}
 use Rattle.schedules.specs.Machine.{Program}
 use Rattle.schedules.specs.Threads as threads
@@ -28,6 +28,7 @@ use Rattle.review.proofs.Programs as programs
 use Rattle.review.proofs.Few.{steps-few}
 use Rattle.review.proofs.Ties.{Stands, stands-start, allowed-steps, steps-allowed}
 use Rattle.review.proofs.Tied.{Outcome, ran, mismatched, outcome}
+use Rattle.review.proofs.Standing.{Standing, standing-start, standing-goes}
 use Rattle.review.proofs.Schedules.{complete-from}
 
 module _ {commands lengths : List ℕ} (K : Keeps commands lengths) where
@@ -75,6 +76,7 @@ module _ {commands lengths : List ℕ} (K : Keeps commands lengths) where
 -- ---- the loop: after i steps the room has what they are, and the rest of the schedule is what is written from the state
 
 pub record Writing (commands lengths before room : List ℕ) (s : Replay) (i : ℕ) : Type 0 where
+  pub standing : Standing commands lengths s
   pub front : List ℕ
   pub long : length front ≡ i
   pub few : i ≤ rows commands
@@ -83,13 +85,16 @@ pub record Writing (commands lengths before room : List ℕ) (s : Replay) (i : �
   pub rest-is : schedule commands lengths ≡ front ++ lowestFirst commands lengths (rows commands - i) s
 
 module _ (commands lengths before : List ℕ) where
-  pub writing-start : rows commands ≤ length before → Writing commands lengths before before start 0
+  pub writing-start : Keeps commands lengths → rows commands ≤ length before → Writing commands lengths before before start 0
   unfolding schedule
-  writing-start l = record { front = []; long = refl; few = omega arith; fits = l; room-is = refl; rest-is = let z : rows commands - 0 ≡ rows commands = omega arith in rw z }
+  writing-start K l =
+      let z : rows commands - 0 ≡ rows commands = omega arith in
+      record { standing = standing-start K; front = []; long = refl; few = omega arith; fits = l; room-is = refl; rest-is = rw z }
 
   module _ {room : List ℕ} {s : Replay} {i : ℕ} (W : Writing commands lengths before room s i) where
-    abbrev t : ℕ
-    t = lowestAllowed lengths s
+    -- the room is as long as it was
+    pub writing-long : length room ≡ length before
+    writing-long = omega (arith, ap length (W .room-is), length-append (W .front) (drop i before), length-drop i before, W .long, W .few, W .fits)
 
     filled : lowestFirst commands lengths (rows commands - i) s ≡ [] → Filled commands lengths before room i
     filled e =
@@ -101,36 +106,44 @@ module _ (commands lengths before : List ℕ) where
     unfolding lowestFirst
     writing-end l = let z : rows commands - i ≡ 0 = omega arith in filled (rw z)
 
-    left : i < rows commands → rows commands - i ≡ suc (rows commands - (i + 1))
-    left l = omega arith
+    -- the next step
+    module _ (l : i < rows commands) (t : ℕ) (lowest : t ≡ lowestAllowed lengths s) where
+      left : rows commands - i ≡ suc (rows commands - (i + 1))
+      left = omega arith
 
-    -- no thread is allowed
-    pub writing-none : i < rows commands → length lengths ≤ t → Filled commands lengths before room i
-    unfolding lowestFirst
-    writing-none l n = filled (rw (left l, le-ltb t (length lengths) n))
-
-    stored : i < rows commands → set room i t ≡ (W .front ++ t ∷ []) ++ drop (i + 1) before
-    stored l =
-        ap (λ (r : List ℕ). set r i t) (W .room-is ∙ ap (λ (r : List ℕ). W .front ++ r) (drop-cons before i 0 (omega (arith, W .fits))))
-        ∙ set-at (W .front) _ (drop (suc i) before) t i (W .long) ∙ rw add-one (sym (append-assoc (W .front) (t ∷ []) (drop (suc i) before)))
-
-    module _ (l : i < rows commands) (a : t < length lengths) where
-      -- the step is written, and the schedule goes on
-      pub writing-more : goesOn (stepped commands lengths s t .did) ≡ true → Writing commands lengths before (set room i t) (stepped commands lengths s t .after) (i + 1)
+      -- no thread is allowed
+      pub writing-none : t ≡ length lengths → Filled commands lengths before room i
       unfolding lowestFirst
-      writing-more g =
-          record {
-            front = W .front ++ t ∷ [];
-            long = omega (arith, length-append (W .front) (t ∷ []), W .long);
-            few = omega arith;
-            fits = W .fits;
-            room-is = stored l;
-            rest-is = W .rest-is ∙ rw (left l, lt-ltb t (length lengths) a, g) (sym (append-assoc (W .front) (t ∷ []) _));
-          }
+      writing-none n = filled (rw (left, le-ltb (lowestAllowed lengths s) (length lengths) (omega arith)))
 
-      -- or it ends there
-      pub writing-last : goesOn (stepped commands lengths s t .did) ≡ false → Filled commands lengths before (set room i t) (i + 1)
-      unfolding lowestFirst
-      writing-last g =
-          let f : schedule commands lengths ≡ W .front ++ t ∷ [] = W .rest-is ∙ rw (left l, lt-ltb t (length lengths) a, g) in
-          record { long = omega (arith, length-append (W .front) (t ∷ []), W .long, ap length f); room = stored l ∙ ap (λ (r : List ℕ). r ++ drop (i + 1) before) (sym f) }
+      stored : set room i t ≡ (W .front ++ t ∷ []) ++ drop (i + 1) before
+      stored =
+          ap (λ (r : List ℕ). set r i t) (W .room-is ∙ ap (λ (r : List ℕ). W .front ++ r) (drop-cons before i 0 (omega (arith, W .fits))))
+          ∙ set-at (W .front) _ (drop (suc i) before) t i (W .long) ∙ rw add-one (sym (append-assoc (W .front) (t ∷ []) (drop (suc i) before)))
+
+      module _ (a : t ≢ length lengths) where
+        there : ltb (lowestAllowed lengths s) (length lengths) ≡ true
+        there = lt-ltb (lowestAllowed lengths s) (length lengths) (omega (arith, lowest-first (allowed lengths s) (length lengths) .at-most))
+
+        -- the step is written, and the schedule goes on
+        pub writing-more : (d : Stepped) → d ≡ stepped commands lengths s t → true ≡ goesOn (d .did) → Writing commands lengths before (set room i t) (d .after) (i + 1)
+        unfolding lowestFirst
+        writing-more d e g =
+            let h : goesOn (stepped commands lengths s t .did) ≡ true = ap (λ (d : Stepped). goesOn (d .did)) (sym e) ∙ sym g in
+            record {
+              standing = rw e (standing-goes (W .standing) t h);
+              front = W .front ++ t ∷ [];
+              long = omega (arith, length-append (W .front) (t ∷ []), W .long);
+              few = omega arith;
+              fits = W .fits;
+              room-is = stored;
+              rest-is = W .rest-is ∙ rw (left, there, sym lowest, h, e) (sym (append-assoc (W .front) (t ∷ []) _));
+            }
+
+        -- or it ends there
+        pub writing-last : (d : Stepped) → d ≡ stepped commands lengths s t → false ≡ goesOn (d .did) → Filled commands lengths before (set room i t) (i + 1)
+        unfolding lowestFirst
+        writing-last d e g =
+            let h : goesOn (stepped commands lengths s t .did) ≡ false = ap (λ (d : Stepped). goesOn (d .did)) (sym e) ∙ sym g in
+            let f : schedule commands lengths ≡ W .front ++ t ∷ [] = W .rest-is ∙ rw (left, there, sym lowest, h) in
+            record { long = omega (arith, length-append (W .front) (t ∷ []), W .long, ap length f); room = stored ∙ ap (λ (r : List ℕ). r ++ drop (i + 1) before) (sym f) }

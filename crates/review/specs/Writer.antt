@@ -39,9 +39,13 @@ lowestFirst commands lengths (suc n) s =
 unfoldable pub schedule : List ℕ → List ℕ → List ℕ
 schedule commands lengths = lowestFirst commands lengths (rows commands) start
 
--- 1 to 3, or 4 for a schedule room under M
+-- 4: schedule room under M (2)
+abbrev pub shortRoom : ℕ → ℕ → Told
+shortRoom m room = cond (ltb room m) (tell 4 2 0) (tell 0 0 0)
+
+-- 1 to 4, of tables and the length of the room
 unfoldable pub unwritten : List ℕ → List ℕ → ℕ → Told
-unwritten commands lengths room = orElse (checked commands lengths) (cond (ltb room (rows commands)) (tell 4 2 0) (tell 0 0 0))
+unwritten commands lengths room = orElse (checked commands lengths) (shortRoom (rows commands) room)
 
 -- The schedule stands first in the room, and the room beyond it is kept.
 pub record Filled (commands lengths before after : List ℕ) (n : ℕ) : Type 0 where
