@@ -1,6 +1,7 @@
 -- Each row has one thread: where the threads' rows begin and end, and whose row a row is. Assumes nothing.
 use mathlib.Core.Path.{_≡_, refl, sym, ap, _∙_}
 use mathlib.Core.Logic.{by-cases}
+use mathlib.Core.Bool.{false}
 use mathlib.Core.List.{List, [], _∷_}
 use Prim.Native.Nat.{ℕ, zero, suc, min, _+_, _-_, _≤_, _<_}
 use native.Mathlib.Decide.{decLt}
@@ -8,8 +9,8 @@ use native.Mathlib.Numerals.{add-one}
 use native.Mathlib.Omega.{arith}
 use lib.ListN.{length, getD, drop}
 use lib.Seq.{take-all, take-nil, drop-nil, drop-cons}
-use borrow.Author.Tests.{lt-ltb, le-ltb}
-use Rattle.tables.specs.Rows.{total, firstRow, endRow, threadOf}
+use borrow.Author.Tests.{lt-ltb, le-ltb, eqb-false}
+use Rattle.tables.specs.Rows.{total, firstRow, endRow, threadOf, isFirst}
 
 pub first-none : (lengths : List ℕ) → firstRow lengths 0 ≡ 0
 unfolding firstRow total
@@ -57,6 +58,17 @@ only (n ∷ lengths) c zero h = (rw (lt-ltb c n (omega arith)), omega arith)
 only (n ∷ lengths) c (suc t) h =
     let g = only lengths (c - n) t (record { there = omega arith; low = omega arith; high = omega arith }) in
     (rw (le-ltb c n (omega arith)) (ap suc (g .0)), omega arith)
+
+-- a row that is not the first of its thread stands after one
+pub past-first : (lengths : List ℕ) (c : ℕ) → c < total lengths → isFirst lengths c ≡ false → 1 ≤ c
+past-first lengths c l e = let n = eqb-false c (firstRow lengths (threadOf lengths c)) e in omega (arith, home lengths c l .low)
+
+pub thread-most : (lengths : List ℕ) (c : ℕ) → threadOf lengths c ≤ length lengths
+unfolding threadOf
+thread-most [] c = omega arith
+thread-most (n ∷ lengths) c =
+    by-cases (decLt c n) (λ (m : c < n). rw (lt-ltb _ _ m) (omega arith))
+    (λ (m : ¬ (c < n)). rw (le-ltb c n (omega arith)) (omega (arith, thread-most lengths (c - n))))
 
 -- ---- the thread of a row, sought from thread t on
 
