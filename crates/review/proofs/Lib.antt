@@ -1,2 +1,3 @@
--- Read in this order: Sheets (pairs more on a sheet).
+-- Read in this order: Rooms (what goes into the two rooms); Sheets (pairs, added one after the other).
+pub mod Rooms
 pub mod Sheets

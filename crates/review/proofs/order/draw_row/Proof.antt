@@ -1,0 +1,58 @@
+-- The edges from the numbers below i, and from i to the numbers below j, are in the room. Assumes nothing.
+use mathlib.Core.Logic.{⊎-elim}
+use Prim.Native.Nat.{_≤_, _-_}
+use lib.ListN.{length}
+use Rattle.tables.specs.Limits.{mostRows}
+use Rattle.tables.specs.Rows.{rows}
+use Rattle.relation.specs.Table.{Holds}
+use Rattle.review.specs.Order.{at}
+use Rattle.review.proofs.Rooms.{Partly, row-none, row-drawn, row-passed, row-all}
+use native.Mathlib.Omega.{arith}
+use borrow.Author.Needs.{needs}
+use Rattle.review.proofs.order.draw_row.Statement.{statement}
+use Rattle.review.proofs.order.draw_row.Tie as tie
+
+abbrev Inv-loop : tie.InvT-loop
+Inv-loop commands lengths generations relation₀ i m j₀ relation j = (j ≤ rows commands) × Holds relation₀ relation (rows commands) (Partly commands lengths (at generations) i j)
+
+abbrev μ-loop : tie.MeasureT-loop
+μ-loop commands lengths generations relation₀ i m j₀ relation j = rows commands - j
+
+loop-holds : tie.Need-loop-holds Inv-loop μ-loop
+loop-holds c =
+    let s = c .before .before .before .before in
+    let a = s .args in
+    (search needs, row-none (a .commands .now) (a .lengths .now) (at (a .generations .now)) (a .relation .now) (a .relation .now) (a .i) (s .pre .1 .drawn))
+
+loop-again : tie.Need-loop-again Inv-loop μ-loop
+loop-again c =
+    let l = c .before .before .before .loop in
+    let s = c .before .before .before .before .before .before .before .before in
+    let a = s .args in
+    (search needs, ⊎-elim ? ? (c .if1 .came))
+
+returns : tie.Need-returns Inv-loop μ-loop
+returns c =
+    let l = c .before .loop in
+    let a = c .before .before .before .before .before .before .args in
+    let e : l .j ≡ rows (a .commands .now) = omega arith in
+    row-all (a .commands .now) (a .lengths .now) (at (a .generations .now)) (a .relation .now) (l .relation) (a .i) (rw e at (l .inv .1))
+
+pub draw-row-spec : {M : Type 1} → statement M
+unfolding mostRows
+draw-row-spec =
+    tie.close
+    (tie.spec
+    Inv-loop
+    μ-loop
+    loop-holds
+    (λ c κs. search needs)
+    (λ c. search needs)
+    (λ c. search needs)
+    (λ c. search needs)
+    (λ c κs. search needs)
+    (λ c. search needs)
+    (λ c. search needs)
+    loop-again
+    (λ c. search needs)
+    returns)
