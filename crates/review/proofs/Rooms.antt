@@ -12,15 +12,13 @@ use lib.ListN.{length, getD, set}
 use borrow.Author.Tests.{eq-eqb, ne-eqb}
 use Rattle.tables.specs.Rows.{rows, isFirst}
 use Rattle.relation.specs.Chains.{Chain, On}
-use Rattle.relation.specs.Bits.{Stored}
-use Rattle.relation.specs.Table.{width, words, Related, Holds, related}
+use Rattle.relation.specs.Table.{words, related, Related, Holds, Puts}
 use Rattle.relation.proofs.Truth.{clashing, same-test, pair, left, right}
-use Rattle.relation.proofs.Chains.{chain-map}
+use Rattle.relation.proofs.Chains.{chain-map, reach-map}
 use Rattle.relation.proofs.Chains as chains
-use Rattle.relation.proofs.Rooms.{related-inside, holds-related, holds-map, holds-more, holds-trans, holds-self}
+use Rattle.relation.proofs.Rooms.{Inside, place-in, related-inside, holds-related, holds-map, holds-more, holds-trans, holds-self}
 use Rattle.schedules.specs.Order.{Reaches, edge, reach}
 use Rattle.schedules.proofs.Table.{decides, edge-alike}
-use Rattle.relation.proofs.Chains.{reach-map}
 use Rattle.review.specs.Order.{program, put, meets, edges, Reached, From}
 
 -- ---- generations
@@ -34,12 +32,9 @@ put-suc (x ∷ g) (y ∷ r) (suc n) l h = ap (λ (t : List ℕ). x ∷ t) (put-s
 pub put-more : (g r : List ℕ) (n : ℕ) → n < length g → n < length r → set (put g n r) n (getD g n 0) ≡ put g (n + 1) r
 put-more g r n l h = rw add-one (put-suc g r n l h)
 
+-- ---- each edge
+
 module _ (commands lengths : List ℕ) (g : ℕ → ℕ) where
-  abbrev m : ℕ
-  m = rows commands
-
-  -- ---- each edge
-
   pub edge-same : (i j : ℕ) → i ≡ j → edges commands lengths g i j ≡ true
   edge-same i j e = left _ _ (eq-eqb i j e)
 
@@ -52,66 +47,72 @@ module _ (commands lengths : List ℕ) (g : ℕ → ℕ) where
   edge-meets i j n (inl u) = rw (ne-eqb i j n, ne-eqb j (suc i) (λ e. u (e ∙ sym (add-one i))))
   edge-meets i j n (inr t) = rw (ne-eqb i j n, t, and-false (eqb j (suc i)))
 
-  -- ---- the edges, drawn one after the other
+-- ---- the edges, drawn one after the other
 
-  -- the edges from the numbers below i, and those from i to the numbers below j
-  pub record Partly (i j x y : ℕ) : Type 0 where
-    pub low : (x < i) ⊎ ((x ≡ i) × (y < j))
-    pub edge : edges commands lengths g x y ≡ true
+-- the edges from the numbers below i, and those from i to the numbers below j
+pub record Partly (commands lengths : List ℕ) (g : ℕ → ℕ) (i j x y : ℕ) : Type 0 where
+  pub low : (x < i) ⊎ ((x ≡ i) × (y < j))
+  pub edge : edges commands lengths g x y ≡ true
 
-  module _ (b r : List ℕ) (i : ℕ) where
-    pub row-none : Holds b r m (From commands lengths g i) → Holds b r m (Partly i 0)
-    row-none H =
-        holds-map b r m (From commands lengths g i) (Partly i 0)
+module _ {commands lengths : List ℕ} {g : ℕ → ℕ} {i j : ℕ} where
+  wider : (x y : ℕ) → Partly commands lengths g i j x y → Partly commands lengths g i (suc j) x y
+  wider x y p = record { low = ⊎-elim inl (λ (w : (x ≡ i) × (y < j)). inr (w .0, omega (arith, w .1))) (p .low); edge = p .edge }
+
+  -- of one number more there is the pair of i and j itself
+  newest : (x y : ℕ) → Partly commands lengths g i (suc j) x y → Partly commands lengths g i j x y ⊎ ((x ≡ i) × (y ≡ j))
+  newest x y p =
+      ⊎-elim (λ (l : x < i). inl (record { low = inl l; edge = p .edge }))
+      (λ (w : (x ≡ i) × (y < suc j)). by-cases (ℕ-discrete y j) (λ (e : y ≡ j). inr (w .0, e))
+      (λ (n : y ≢ j). inl (record { low = inr (w .0, omega (arith, w .1)); edge = p .edge })))
+      (p .low)
+
+module _ {commands lengths : List ℕ} {g : ℕ → ℕ} {b r : List ℕ} {i : ℕ} where
+  pub row-none : Holds b r (rows commands) (From commands lengths g i) → Holds b r (rows commands) (Partly commands lengths g i 0)
+  row-none H =
+      holds-map b r (rows commands) (From commands lengths g i) (Partly commands lengths g i 0)
+      (λ x y lx ly. (
+        λ f. record { low = inl (f .low); edge = f .edge },
+        λ p. record { low = ⊎-elim (λ l. l) (λ w. absurd (omega arith)) (p .low); edge = p .edge },
+      ))
+      H
+
+  module _ {j : ℕ} where
+    pub row-all : rows commands ≤ j → Holds b r (rows commands) (Partly commands lengths g i j) → Holds b r (rows commands) (From commands lengths g (suc i))
+    row-all h H =
+        holds-map b r (rows commands) (Partly commands lengths g i j) (From commands lengths g (suc i))
         (λ x y lx ly. (
-          λ f. record { low = inl (f .low); edge = f .edge },
-          λ p. record { low = ⊎-elim (λ l. l) (λ w. absurd (omega arith)) (p .low); edge = p .edge },
+          λ p. record { low = ⊎-elim (λ (l : x < i). omega arith) (λ (w : (x ≡ i) × (y < j)). omega arith) (p .low); edge = p .edge },
+          λ f. record { low = by-cases (decLt x i) inl (λ (n : ¬ (x < i)). inr (omega (arith, f .low), omega arith)); edge = f .edge },
         ))
         H
 
-    pub row-all : Holds b r m (Partly i m) → Holds b r m (From commands lengths g (suc i))
-    row-all H =
-        holds-map b r m (Partly i m) (From commands lengths g (suc i))
+    pub row-drawn : {s : List ℕ} → words (rows commands) ≤ length b → i < rows commands → j < rows commands → edges commands lengths g i j ≡ true
+        → Holds b r (rows commands) (Partly commands lengths g i j) → Puts r s (rows commands) i j → Holds b s (rows commands) (Partly commands lengths g i (j + 1))
+    row-drawn {s} fits li lj t H T =
+        let I : Inside (length r) (rows commands) i j = record { fits = omega (arith, H .len); from = li; to = lj } in
+        rw (add-one j)
+        (holds-map b s (rows commands) (λ x y. Partly commands lengths g i j x y ⊎ ((x ≡ i) × (y ≡ j))) (Partly commands lengths g i (suc j))
         (λ x y lx ly. (
-          λ p. record { low = ⊎-elim (λ (l : x < i). omega arith) (λ (w : (x ≡ i) × (y < m)). omega arith) (p .low); edge = p .edge },
-          λ f. record { low = by-cases (decLt x i) inl (λ (n : ¬ (x < i)). inr (omega (arith, f .low), ly)); edge = f .edge },
+          λ h. ⊎-elim (wider x y) (λ (w : (x ≡ i) × (y ≡ j)). record { low = inr (w .0, omega (arith, w .1)); edge = rw (w .0, w .1) t }) h,
+          newest x y,
         ))
-        H
+        (holds-more b r s (rows commands) i j (Partly commands lengths g i j) li lj H (T .within (place-in (length r) (rows commands) i j I))))
 
-    module _ (j : ℕ) where
-      wider : (x y : ℕ) → Partly i j x y → Partly i (suc j) x y
-      wider x y p = record { low = ⊎-elim inl (λ (w : (x ≡ i) × (y < j)). inr (w .0, omega (arith, w .1))) (p .low); edge = p .edge }
+    pub row-passed : edges commands lengths g i j ≡ false → Holds b r (rows commands) (Partly commands lengths g i j) → Holds b r (rows commands) (Partly commands lengths g i (j + 1))
+    row-passed f H =
+        rw (add-one j)
+        (holds-map b r (rows commands) (Partly commands lengths g i j) (Partly commands lengths g i (suc j))
+        (λ x y lx ly. (
+          wider x y,
+          λ p. ⊎-elim (λ h. h) (λ (w : (x ≡ i) × (y ≡ j)). clashing (p .edge) (rw (w .0, w .1) f)) (newest x y p),
+        ))
+        H)
 
-      -- of one number more there is the pair of i and j itself
-      newest : (x y : ℕ) → Partly i (suc j) x y → Partly i j x y ⊎ ((x ≡ i) × (y ≡ j))
-      newest x y p =
-          ⊎-elim (λ (l : x < i). inl (record { low = inl l; edge = p .edge }))
-          (λ (w : (x ≡ i) × (y < suc j)). by-cases (ℕ-discrete y j) (λ (e : y ≡ j). inr (w .0, e))
-          (λ (n : y ≢ j). inl (record { low = inr (w .0, omega (arith, w .1)); edge = p .edge })))
-          (p .low)
+-- ---- all edges drawn, and closed
 
-      pub row-drawn : (s : List ℕ) → i < m → j < m → edges commands lengths g i j ≡ true → Holds b r m (Partly i j) → Stored r s (width m) i j true
-          → Holds b s m (Partly i (j + 1))
-      row-drawn s li lj t H T =
-          rw (add-one j)
-          (holds-map b s m (λ x y. Partly i j x y ⊎ ((x ≡ i) × (y ≡ j))) (Partly i (suc j))
-          (λ x y lx ly. (
-            λ h. ⊎-elim (wider x y) (λ (w : (x ≡ i) × (y ≡ j)). record { low = inr (w .0, omega (arith, w .1)); edge = rw (w .0, w .1) t }) h,
-            newest x y,
-          ))
-          (holds-more b r s m i j (Partly i j) li lj H T))
-
-      pub row-passed : edges commands lengths g i j ≡ false → Holds b r m (Partly i j) → Holds b r m (Partly i (j + 1))
-      row-passed f H =
-          rw (add-one j)
-          (holds-map b r m (Partly i j) (Partly i (suc j))
-          (λ x y lx ly. (
-            wider x y,
-            λ p. ⊎-elim (λ h. h) (λ (w : (x ≡ i) × (y ≡ j)). clashing (p .edge) (rw (w .0, w .1) f)) (newest x y p),
-          ))
-          H)
-
-  -- ---- all edges drawn, and closed
+module _ (commands lengths : List ℕ) (g : ℕ → ℕ) where
+  abbrev m : ℕ
+  m = rows commands
 
   module _ (b a : List ℕ) (fits : words m ≤ length a) (H : Holds b a m (From commands lengths g m)) where
     drawn : (i j : ℕ) → i < m → j < m → Related a m i j ↔ From commands lengths g m i j

@@ -3,17 +3,19 @@ use mathlib.Core.Path.{_≡_, refl, sym, ap, ap₂, _∙_}
 use mathlib.Core.Logic.{by-cases}
 use mathlib.Core.Bool.{Bool, true, false, cond}
 use mathlib.Core.List.{List, [], _∷_, _++_, append-assoc, append-nil}
-use Prim.Native.Nat.{ℕ, zero, suc, _+_, _*_, _≤_, _<_}
+use Prim.Native.Nat.{ℕ, zero, suc, _+_, _*_, _^_, _≤_, _<_}
 use native.Mathlib.Decide.{decLt}
-use native.Mathlib.Nat.{suc-mul}
+use native.Mathlib.Nat.{suc-mul, mul-le-mul-right}
 use native.Mathlib.Numerals.{add-one}
 use native.Mathlib.Omega.{arith}
 use lib.ListN.{length, set, length-append}
 use borrow.Author.Tests.{lt-ltb, le-ltb}
+use Rattle.tables.specs.Limits.{mostRows}
+use Rattle.tables.specs.Rows.{rows}
 use Rattle.review.specs.declared.sheet.Pair.{Pair}
 use Rattle.review.specs.declared.sheet.Sheet.{Sheet}
 use Rattle.review.specs.Sheet.{mostKept, firsts, sheetOf, added}
-use Rattle.review.specs.Faults.{addAll, alongRow, allRows}
+use Rattle.review.specs.Faults.{addAll, alongRow, allRows, Adds}
 
 -- ---- one pair more
 
@@ -81,8 +83,18 @@ module _ (found : ℕ → Bool) (to : ℕ → Pair) where
       short true = omega arith
       short false = omega arith
 
-  pub row-total : (s t : Sheet) (j : ℕ) → t ≡ addAll s (alongRow found to j) → t .total ≤ s .total + j
+  row-total : (s t : Sheet) (j : ℕ) → t ≡ addAll s (alongRow found to j) → t .total ≤ s .total + j
   row-total s t j e = omega (arith, ap (λ (u : Sheet). u .total) e, addAll-total s (alongRow found to j), row-length j)
+
+  -- there are few enough to be counted
+  pub row-fits : {commands lengths generations : List ℕ} {s t : Sheet} {i j : ℕ} → Adds commands lengths generations s i → j ≤ rows commands
+      → t ≡ addAll s (alongRow found to j) → (t .total ≤ (i + 1) * rows commands) × (t .total + 1 < 2 ^ 64)
+  unfolding mostRows
+  row-fits {commands} {s = s} {t = t} {i = i} {j = j} A l e =
+      let n = row-total s t j e in
+      let p : (i + 1) * rows commands ≡ i * rows commands + rows commands = rw (add-one i) (suc-mul i (rows commands)) in
+      let q : i * rows commands ≤ mostRows * rows commands = mul-le-mul-right {m = i} {n = mostRows} (rows commands) (omega (arith, A .row, A .keeps .few-rows)) in
+      (omega (arith, A .few), omega (arith, A .few, A .keeps .few-rows))
 
 -- ---- the rows one after the other
 

@@ -1,13 +1,14 @@
 -- The pairs of the inner numbers below j are added. Assumes nothing.
-use mathlib.Core.Path.{_≡_}
+use mathlib.Core.Path.{_≡_, sym, ap, _∙_}
 use mathlib.Core.Logic.{⊎-elim}
 use Prim.Native.Nat.{_≤_, _-_}
 use Rattle.tables.specs.Limits.{mostRows}
 use Rattle.tables.specs.Rows.{rows}
 use Rattle.relation.specs.Table.{related}
 use Rattle.review.specs.Order.{at}
+use Rattle.review.specs.Sheet.{added}
 use Rattle.review.specs.Faults.{faulty, pairOf, alongRow, addAll}
-use Rattle.review.proofs.Sheets.{row-none, row-found, row-passed, row-total}
+use Rattle.review.proofs.Sheets.{row-none, row-found, row-passed, row-fits}
 use native.Mathlib.Omega.{arith}
 use borrow.Author.Needs.{needs}
 use Rattle.review.proofs.faults.search_row.Statement.{statement}
@@ -25,21 +26,22 @@ loop-holds c = (search needs, row-none _ _ _)
 add-requires : tie.Need-add-requires Inv-loop μ-loop
 add-requires c κs =
     let l = c .before .before .before .before .loop in
-    let s = c .before .before .before .before .before .before .before .before .before in
-    omega (arith, row-total _ _ (s .args .sheet) (l .found) (l .j) (l .inv .1), s .pre .few, s .pre .keeps .few-rows)
+    row-fits _ _ (c .before .before .before .before .before .before .before .before .before .pre) (l .inv .0) (l .inv .1) .1
 
 loop-again : tie.Need-loop-again Inv-loop μ-loop
 loop-again c =
     let l = c .before .before .before .loop in
-    let s = c .before .before .before .before .before .before .before .before in
-    let a = s .args in
-    (search needs, ⊎-elim ? ? (c .if1 .came))
+    let a = c .before .before .before .before .before .before .before .before .args in
+    let e = sym (c .before .is-fault .ensures) in (
+      search needs,
+      ⊎-elim (λ w. w .3 ∙ w .2 .ensures ∙ ap (added (l .found)) (w .1 .ensures) ∙ row-found _ _ (a .sheet) (l .found) (l .j) (l .inv .1) (e ∙ w .0 .taken))
+          (λ w. w .1 ∙ row-passed _ _ (a .sheet) (l .found) (l .j) (l .inv .1) (e ∙ w .0 .left)) (c .if1 .came),
+    )
 
 returns : tie.Need-returns Inv-loop μ-loop
 returns c =
     let l = c .before .loop in
-    let a = c .before .before .before .before .before .before .args in
-    let e : l .j ≡ rows (a .commands .now) = omega arith in
+    let e : l .j ≡ rows (c .before .before .before .before .before .before .args .commands .now) = omega arith in
     rw e at (l .inv .1)
 
 pub search-row-spec : {M : Type 1} → statement M

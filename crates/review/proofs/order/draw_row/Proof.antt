@@ -1,13 +1,12 @@
 -- The edges from the numbers below i, and from i to the numbers below j, are in the room. Assumes nothing.
+use mathlib.Core.Path.{sym, _∙_}
 use mathlib.Core.Logic.{⊎-elim}
 use Prim.Native.Nat.{_≤_, _-_}
-use lib.ListN.{length}
 use Rattle.tables.specs.Limits.{mostRows}
 use Rattle.tables.specs.Rows.{rows}
 use Rattle.relation.specs.Table.{Holds}
 use Rattle.review.specs.Order.{at}
 use Rattle.review.proofs.Rooms.{Partly, row-none, row-drawn, row-passed, row-all}
-use native.Mathlib.Omega.{arith}
 use borrow.Author.Needs.{needs}
 use Rattle.review.proofs.order.draw_row.Statement.{statement}
 use Rattle.review.proofs.order.draw_row.Tie as tie
@@ -19,24 +18,20 @@ abbrev μ-loop : tie.MeasureT-loop
 μ-loop commands lengths generations relation₀ i m j₀ relation j = rows commands - j
 
 loop-holds : tie.Need-loop-holds Inv-loop μ-loop
-loop-holds c =
-    let s = c .before .before .before .before in
-    let a = s .args in
-    (search needs, row-none (a .commands .now) (a .lengths .now) (at (a .generations .now)) (a .relation .now) (a .relation .now) (a .i) (s .pre .1 .drawn))
+loop-holds c = (search needs, row-none (c .before .before .before .before .pre .1 .drawn))
 
 loop-again : tie.Need-loop-again Inv-loop μ-loop
 loop-again c =
     let l = c .before .before .before .loop in
     let s = c .before .before .before .before .before .before .before .before in
-    let a = s .args in
-    (search needs, ⊎-elim ? ? (c .if1 .came))
+    let e = sym (c .before .edge .ensures) in (
+      search needs,
+      ⊎-elim (λ w. rw (w .5) (row-drawn (s .pre .1 .roomy .relation-fits) (s .pre .0) (c .before .before .loop-test .taken) (e ∙ w .0 .taken) (l .inv .1) (w .2 .ensures)))
+          (λ w. rw (w .1) (row-passed (e ∙ w .0 .left) (l .inv .1))) (c .if1 .came),
+    )
 
 returns : tie.Need-returns Inv-loop μ-loop
-returns c =
-    let l = c .before .loop in
-    let a = c .before .before .before .before .before .before .args in
-    let e : l .j ≡ rows (a .commands .now) = omega arith in
-    row-all (a .commands .now) (a .lengths .now) (at (a .generations .now)) (a .relation .now) (l .relation) (a .i) (rw e at (l .inv .1))
+returns c = row-all (c .loop-test .left) (c .before .loop .inv .1)
 
 pub draw-row-spec : {M : Type 1} → statement M
 unfolding mostRows
