@@ -19,7 +19,7 @@ use Rattle.relation.proofs.Chains as chains
 use Rattle.relation.proofs.Rooms.{Inside, place-in, related-inside, holds-related, holds-map, holds-more, holds-trans, holds-self}
 use Rattle.schedules.specs.Order.{Reaches, edge, reach}
 use Rattle.schedules.proofs.Table.{decides, edge-alike}
-use Rattle.review.specs.Order.{program, put, meets, edges, Reached, From}
+use Rattle.review.specs.Order.{program, at, put, meets, edges, Reached, Roomy, From, Drawn, Ordering}
 
 -- ---- generations
 
@@ -107,6 +107,21 @@ module _ {commands lengths : List ℕ} {g : ℕ → ℕ} {b r : List ℕ} {i : �
           λ p. ⊎-elim (λ h. h) (λ (w : (x ≡ i) × (y ≡ j)). clashing (p .edge) (rw (w .0, w .1) f)) (newest x y p),
         ))
         H)
+
+-- ---- row after row
+
+pub all-go-on : {commands lengths generations b r : List ℕ} {i : ℕ} → Roomy commands lengths generations b → Drawn commands lengths generations b r i
+    → Ordering commands lengths generations r i
+all-go-on {commands} {lengths} {generations} {b} {r} {i} R D =
+    record {
+      roomy = record { keeps = R .keeps; generations-fit = R .generations-fit; relation-fits = omega (arith, R .relation-fits, D .len) };
+      drawn = holds-self b r (rows commands) (From commands lengths (at generations) i) D;
+    }
+
+pub all-more : {commands lengths b r s : List ℕ} {g : ℕ → ℕ} {i : ℕ} → Holds b r (rows commands) (From commands lengths g i)
+    → Holds r s (rows commands) (From commands lengths g (suc i)) → Holds b s (rows commands) (From commands lengths g (i + 1))
+all-more {commands} {lengths} {b} {r} {s} {g} {i} D E =
+    rw (add-one i) (holds-trans b r s (rows commands) (From commands lengths g i) (From commands lengths g (suc i)) D E)
 
 -- ---- all edges drawn, and closed
 
