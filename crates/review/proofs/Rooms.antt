@@ -12,11 +12,11 @@ use lib.ListN.{length, getD, set}
 use borrow.Author.Tests.{eq-eqb, ne-eqb}
 use Rattle.tables.specs.Rows.{rows, isFirst}
 use Rattle.relation.specs.Chains.{Chain, On}
-use Rattle.relation.specs.Table.{words, related, Related, Holds, Puts}
+use Rattle.relation.specs.Table.{words, related, Related, Holds, Writes, Puts}
 use Rattle.relation.proofs.Truth.{clashing, same-test, pair, left, right}
 use Rattle.relation.proofs.Chains.{chain-map, reach-map}
 use Rattle.relation.proofs.Chains as chains
-use Rattle.relation.proofs.Rooms.{Inside, place-in, related-inside, holds-related, holds-map, holds-more, holds-trans, holds-self}
+use Rattle.relation.proofs.Rooms.{Inside, place-in, related-inside, holds-related, holds-map, holds-more, holds-trans, holds-self, wrote}
 use Rattle.schedules.specs.Order.{Reaches, edge, reach}
 use Rattle.schedules.proofs.Table.{decides, edge-alike}
 use Rattle.review.specs.Order.{program, at, put, meets, edges, Reached, Roomy, From, Drawn, Ordering}
@@ -118,6 +118,14 @@ all-go-on {commands} {lengths} {generations} {b} {r} {i} R D =
       drawn = holds-self b r (rows commands) (From commands lengths (at generations) i) D;
     }
 
+-- a room that holds nothing has the edges from the numbers below 0
+pub none-go-on : {commands lengths generations b r : List ℕ} {said : Bool} → Roomy commands lengths generations b → Writes (λ i j. ⊥) b r (rows commands) said
+    → Ordering commands lengths generations r 0
+none-go-on {commands} {lengths} {generations} {b} {r} R W =
+    all-go-on R
+    (holds-map b r (rows commands) (λ i j. ⊥) (From commands lengths (at generations) 0) (λ x y lx ly. (λ z. absurd z, λ f. absurd (omega (arith, f .low))))
+    (wrote (R .relation-fits) W))
+
 pub all-more : {commands lengths b r s : List ℕ} {g : ℕ → ℕ} {i : ℕ} → Holds b r (rows commands) (From commands lengths g i)
     → Holds r s (rows commands) (From commands lengths g (suc i)) → Holds b s (rows commands) (From commands lengths g (i + 1))
 all-more {commands} {lengths} {b} {r} {s} {g} {i} D E =
@@ -148,16 +156,10 @@ module _ (commands lengths : List ℕ) (g : ℕ → ℕ) where
         let (reaches, table) = decides (program commands lengths) g i j li lj in
         (λ p. reaches (back (chain-map edge-of p)), λ p. chain-map edge-to (into (table p)))
 
-    pub closed-reached : (s : List ℕ) → Holds a s m (Chain (Related a m)) → Reached commands lengths g b s
+    closed-reached : (s : List ℕ) → Holds a s m (Chain (Related a m)) → Reached commands lengths g b s
     closed-reached s K =
         holds-trans b a s m (From commands lengths g m) (Reaches (program commands lengths) g) H
         (holds-map a s m (Chain (Related a m)) (Reaches (program commands lengths) g) chain-reaches K)
-
-  -- a room that holds nothing has the edges from the numbers below 0
-  pub drawn-none : (b r : List ℕ) → Holds b r m (λ i j. ⊥) → Holds r r m (From commands lengths g 0)
-  drawn-none b r H =
-      holds-self b r m (From commands lengths g 0)
-      (holds-map b r m (λ i j. ⊥) (From commands lengths g 0) (λ x y lx ly. (λ z. absurd z, λ f. absurd (omega (arith, f .low)))) H)
 
   -- ---- what a room holds that holds happens-before
 
@@ -167,6 +169,16 @@ module _ (commands lengths : List ℕ) (g : ℕ → ℕ) where
       let (f, t) = holds-related b a m (Reaches (program commands lengths) g) H i j (record { fits = omega (arith, H .len); from = li; to = lj }) in
       let (u, v) = decides (program commands lengths) g i j li lj in
       same-test _ _ (λ e. v (f e)) (λ e. t (u e))
+
+-- the room is cleared, the edges are drawn, and it is closed
+pub ordered : {commands lengths generations b r a s : List ℕ} {said told : Bool} → Roomy commands lengths generations b
+    → Writes (λ i j. ⊥) b r (rows commands) said → Drawn commands lengths generations r a (rows commands)
+    → Writes (Chain (Related a (rows commands))) a s (rows commands) told → Reached commands lengths (at generations) b s
+ordered {commands} {lengths} {generations} {b} {r} {a} {s} R W D K =
+    let H = wrote (R .relation-fits) W in
+    let fits : words (rows commands) ≤ length a = omega (arith, R .relation-fits, D .len, H .len) in
+    holds-trans b r s (rows commands) (λ i j. ⊥) (Reaches (program commands lengths) (at generations)) H
+    (closed-reached commands lengths (at generations) r a fits D s (wrote fits K))
 
 -- over generations that are the same
 pub same-reached : (commands lengths : List ℕ) (g h : ℕ → ℕ) → ((c : ℕ) → c < rows commands → g c ≡ h c)

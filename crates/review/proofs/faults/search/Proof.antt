@@ -29,9 +29,11 @@ loop-holds c = (search needs, c .empty .ensures ∙ all-none _ _ _ _, rw (c .emp
 loop-again : tie.Need-loop-again Inv-loop μ-loop
 loop-again c =
     let l = c .before .before .loop in
-    let s = c .before .before .before .before .before .before .before .before in
-    (search needs, all-more _ _ _ (sheetOf []) (l .found) _ (l .i) (l .inv .1) (c .search-row .ensures),
-     row-fits _ _ {generations = s .args .generations .now} (record { keeps = s .pre .0; row = c .before .loop-test .taken; whole = s .pre .1; few = l .inv .2 }) (omega arith) (c .search-row .ensures) .0)
+    let s = c .before .before .before .before .before .before .before .before in (
+      search needs,
+      all-more _ _ _ (sheetOf []) (l .found) _ (l .i) (l .inv .1) (c .search-row .ensures),
+      row-fits _ _ {generations = s .args .generations .now} (record { keeps = s .pre .0; row = c .before .loop-test .taken; whole = s .pre .1; few = l .inv .2 }) (omega arith) (c .search-row .ensures) .0,
+    )
 
 returns : tie.Need-returns Inv-loop μ-loop
 unfolding faults

@@ -1,25 +1,19 @@
+-- The room is cleared, all edges are drawn, and it is closed. Assumes nothing.
+use Rattle.tables.specs.Limits.{mostRows}
+use Rattle.review.proofs.Rooms.{none-go-on, ordered}
 use borrow.Author.Needs.{needs}
 use Rattle.review.proofs.order.put_order.Statement.{statement}
 use Rattle.review.proofs.order.put_order.Tie as tie
 
-cast-m : tie.Need-cast-m
-cast-m c = search needs
-
-clear-requires : tie.Need-clear-requires
-clear-requires c κs = search needs
-
 draw-requires : tie.Need-draw-requires
-draw-requires c κs = search needs
-
-close-requires : tie.Need-close-requires
-close-requires c κs = search needs
-
-same-length : tie.Need-same-length
-same-length c = search needs
+draw-requires c κs = none-go-on (c .before .before .before .before .before .before .before .before .before .pre) (c .before .before .before .clear .ensures)
 
 returns : tie.Need-returns
-returns c = search needs
+returns c =
+    ordered (c .before .before .before .before .before .before .before .before .before .before .before .before .before .before .before .before .pre) (c .before .before .before .before .before .before .before .before .before .before .clear .ensures)
+    (c .before .before .before .before .before .before .draw .ensures) (c .before .before .close .ensures)
 
 pub put-order-spec : {M : Type 1} → statement M
+unfolding mostRows
 put-order-spec =
-    tie.close (tie.spec cast-m clear-requires draw-requires close-requires same-length returns)
+    tie.close (tie.spec (λ c. search needs) (λ c κs. search needs) draw-requires (λ c κs. search needs) (λ c. search needs) returns)
