@@ -14,6 +14,7 @@ use Rattle.tables.specs.Rows.{rows, threadOf, isFirst}
 use Rattle.tables.specs.Rules.{Keeps}
 use Rattle.tables.proofs.Rows.{past-first}
 use Rattle.relation.proofs.Truth.{clashing, split, isnt, both, pair, either, left, right}
+use Rattle.schedules.specs.Machine.{Program}
 use Rattle.schedules.specs.Order.{Reaches, reach, Reuse, Succeeds, Waits}
 use Rattle.schedules.proofs.Table.{decides}
 use Rattle.review.specs.declared.sheet.Pair.{Pair}
@@ -88,7 +89,7 @@ module _ (found : ℕ → ℕ → Bool) (to : ℕ → ℕ → Pair) (m : ℕ) wh
       (λ (h : k < length (allRows found to m n)). let (i, j, a, b, e, q) = all-only n k h in (i, j, omega arith, b, e, q))
       (λ (h : ¬ (k < length (allRows found to m n))).
       let (j, b, e, q) =
-          row-only (found n) (to n) m (k - length (allRows found to m n)) (omega (arith, length-append (allRows found to m n) (alongRow (found n) (to n) m))) in
+      row-only (found n) (to n) m (k - length (allRows found to m n)) (omega (arith, length-append (allRows found to m n) (alongRow (found n) (to n) m))) in
       (n, j, omega arith, b, e, omega (arith, length-append (allRows found to m n) (alongRow (found n) (to n) j))))
 
 -- A list has each pair that is found once, by outer numbers and then by inner ones.
@@ -133,3 +134,98 @@ module _ (commands lengths : List ℕ) (g : ℕ → ℕ) (ρ : ℕ → ℕ → B
   some-fault {p} {ps} e =
       let (i, j, li, lj, t, q) = in-order .only 0 (omega (arith, ap length e)) in
       (i, j, li, lj, t, sym (ap (λ (l : List Pair). getD l 0 (sheet.pair 0 0)) e) ∙ rw q at (in-order .there i j li lj t .1))
+
+-- ---- the same tests over the same numbers
+
+row-same : (p q : ℕ → Bool) (to : ℕ → Pair) (n : ℕ) → ((j : ℕ) → j < n → p j ≡ q j) → alongRow p to n ≡ alongRow q to n
+unfolding alongRow
+row-same p q to zero h = refl
+row-same p q to (suc n) h = rw (row-same p q to n (λ j l. h j (omega arith)), h n (omega arith))
+
+all-same : (p q : ℕ → ℕ → Bool) (to : ℕ → ℕ → Pair) (m n : ℕ) → ((i j : ℕ) → i < n → j < m → p i j ≡ q i j) → allRows p to m n ≡ allRows q to m n
+unfolding allRows
+all-same p q to m zero h = refl
+all-same p q to m (suc n) h =
+    rw (all-same p q to m n (λ i j l. h i j (omega arith)), row-same (p n) (q n) (to n) m (λ j. h n j (omega arith)))
+
+module _ (commands lengths : List ℕ) (g h : ℕ → ℕ) (ρ σ : ℕ → ℕ → Bool) (same : (c : ℕ) → c < rows commands → g c ≡ h c)
+    (agree : (i j : ℕ) → i < rows commands → j < rows commands → ρ i j ≡ σ i j) where
+  faulty-same : (f : Fault) (i j : ℕ) → i < rows commands → j < rows commands → faulty commands lengths g ρ f i j ≡ faulty commands lengths h σ f i j
+  unfolding succeeds reuse race
+  faulty-same fault.Reuse i j li lj = rw (same i li, same j lj, agree j (i - 1) lj (omega arith))
+  faulty-same fault.Race i j li lj = rw (agree i j li lj, agree j i lj li)
+
+  pub same-faults : (f : Fault) → faults commands lengths g ρ f ≡ faults commands lengths h σ f
+  unfolding faults
+  same-faults f = all-same _ _ (pairOf f) (rows commands) (rows commands) (faulty-same f)
+
+-- ---- what the tests say, over the table of what reaches what
+
+module _ (commands lengths : List ℕ) (g : ℕ → ℕ) where
+  abbrev P : Program
+  P = program commands lengths
+
+  succeeds-is : (c₁ c₂ : ℕ) → c₁ < rows commands → c₂ < rows commands → (succeeds commands g c₁ c₂ ≡ true) ↔ Succeeds P g c₁ c₂
+  unfolding succeeds
+  succeeds-is c₁ c₂ l₁ l₂ = (
+    λ e.
+        let (r, e₁) = both _ _ e in
+        let (s, e₂) = both _ _ e₁ in
+        let (a, b) = both _ _ e₂ in
+        record { low₁ = l₁; low₂ = l₂; reg₁ = r; reg₂ = s; at = eqb-true _ _ a; gen = sym (eqb-true _ _ b) ∙ add-one (g c₁) },
+    λ s. pair _ _ (s .reg₁) (pair _ _ (s .reg₂) (pair _ _ (eq-eqb _ _ (s .at)) (eq-eqb _ _ (add-one (g c₁) ∙ sym (s .gen))))),
+  )
+
+  module _ (K : Keeps commands lengths) where
+    pub reuse-is : (c₁ c₂ : ℕ) → c₁ < rows commands → c₂ < rows commands → (reuse commands lengths g (reach P g) c₁ c₂ ≡ true) ↔ Reuse P g c₁ c₂
+    unfolding reuse
+    reuse-is c₁ c₂ l₁ l₂ =
+        let d = decides P g c₁ (c₂ - 1) l₁ (omega arith) in (
+          λ e.
+              let (s, t) = both _ _ e in
+              record {
+                succeeds = succeeds-is c₁ c₂ l₁ l₂ .0 s;
+                loose = λ w.
+                    let q : w .before ≡ c₂ - 1 = omega (arith, w .is-before) in
+                    ⊎-elim (λ f. clashing f (w .not-first)) (λ n. clashing (d .1 (subst (Reaches P g c₁) q (w .reached))) (not-true _ n)) (either (isFirst lengths c₂) _ t);
+              },
+          λ r.
+              pair _ _ (succeeds-is c₁ c₂ l₁ l₂ .1 (r .succeeds))
+              (⊎-elim (λ (f : isFirst lengths c₂ ≡ true). left _ _ f)
+              (λ (f : isFirst lengths c₂ ≡ false).
+              right (isFirst lengths c₂) _
+              (ap not
+              (isnt (reach P g c₁ (c₂ - 1))
+              (λ t. r .loose
+              (record {
+                before = c₂ - 1;
+                is-before = omega (arith, past-first lengths c₂ (omega (arith, K .adds-up)) f);
+                not-first = f;
+                reached = d .0 t;
+              })))))
+              (split (isFirst lengths c₂))),
+        )
+
+  pub race-is : (x y : ℕ) → x < rows commands → y < rows commands → (race commands lengths (reach P g) x y ≡ true)
+      ↔ ((x < y) × (conflict commands x y ≡ true) × (threadOf lengths x ≢ threadOf lengths y) × (¬ Reaches P g x y) × (¬ Reaches P g y x))
+  unfolding race
+  race-is x y lx ly =
+      let (u, v) = decides P g x y lx ly in
+      let (w, z) = decides P g y x ly lx in (
+        λ e.
+            let (a, e₁) = both _ _ e in
+            let (b, e₂) = both _ _ e₁ in
+            let (c, e₃) = both _ _ e₂ in
+            let (d, d′) = both _ _ e₃ in (
+              ltb-true _ _ a,
+              b,
+              eqb-false _ _ (not-true _ c),
+              λ p. clashing (v p) (not-true _ d),
+              λ p. clashing (z p) (not-true _ d′),
+            ),
+        λ r.
+            pair _ _ (lt-ltb _ _ (r .0))
+            (pair _ _ (r .1)
+            (pair _ _ (ap not (ne-eqb _ _ (r .2)))
+            (pair _ _ (ap not (isnt (reach P g x y) (λ t. r .3 (u t)))) (ap not (isnt (reach P g y x) (λ t. r .4 (w t))))))),
+      )
