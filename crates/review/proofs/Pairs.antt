@@ -1,13 +1,12 @@
 -- Each fault stands once in the list of its kind, in its order; and the tests over the tables say what the definitions of faults say. Assumes nothing.
-use mathlib.Core.Path.{_≡_, refl, sym, ap, ap₂, subst, _∙_}
+use mathlib.Core.Path.{_≡_, refl, sym, ap, subst, _∙_}
 use mathlib.Core.Logic.{_⊎_, inl, inr, ⊎-elim, by-cases, _≢_, _↔_}
-use mathlib.Core.Bool.{Bool, true, false, cond, not, _&&_, _||_}
+use mathlib.Core.Bool.{Bool, true, false, cond, not}
 use mathlib.Core.List.{List, [], _∷_, _++_, append-assoc, append-nil}
 use Prim.Native.Nat.{ℕ, zero, suc, _+_, _-_, _≤_, _<_}
 use native.Mathlib.Decide.{decLt, ℕ-discrete}
 use native.Mathlib.Numerals.{add-one}
 use native.Mathlib.Omega.{arith}
-use lib.Dec.{eqb, ltb}
 use lib.ListN.{length, getD, length-append}
 use borrow.Author.Tests.{eqb-true, eqb-false, eq-eqb, ne-eqb, ltb-true, lt-ltb, not-true}
 use Rattle.tables.specs.Rows.{rows, threadOf, isFirst}
@@ -15,7 +14,7 @@ use Rattle.tables.specs.Rules.{Keeps}
 use Rattle.tables.proofs.Rows.{past-first}
 use Rattle.relation.proofs.Truth.{clashing, split, isnt, both, pair, either, left, right}
 use Rattle.schedules.specs.Machine.{Program}
-use Rattle.schedules.specs.Order.{Reaches, reach, Reuse, Succeeds, Waits}
+use Rattle.schedules.specs.Order.{Reaches, reach, Reuse, Succeeds}
 use Rattle.schedules.proofs.Table.{decides}
 use Rattle.review.specs.declared.sheet.Pair.{Pair}
 use Rattle.review.specs.declared.faults.Fault.{Fault}
@@ -187,7 +186,8 @@ module _ (commands lengths : List ℕ) (g : ℕ → ℕ) where
                 succeeds = succeeds-is c₁ c₂ l₁ l₂ .0 s;
                 loose = λ w.
                     let q : w .before ≡ c₂ - 1 = omega (arith, w .is-before) in
-                    ⊎-elim (λ f. clashing f (w .not-first)) (λ n. clashing (d .1 (subst (Reaches P g c₁) q (w .reached))) (not-true _ n)) (either (isFirst lengths c₂) _ t);
+                    ⊎-elim (λ f. clashing f (w .not-first)) (λ n. clashing (d .1 (subst (Reaches P g c₁) q (w .reached))) (not-true _ n))
+                    (either (isFirst lengths c₂) _ t);
               },
           λ r.
               pair _ _ (succeeds-is c₁ c₂ l₁ l₂ .1 (r .succeeds))

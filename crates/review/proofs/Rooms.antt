@@ -1,7 +1,7 @@
 -- What goes into the two rooms: generations as they stand, and happens-before, edge after edge and then closed. Assumes nothing.
-use mathlib.Core.Path.{_≡_, refl, sym, ap, subst, _∙_}
+use mathlib.Core.Path.{_≡_, refl, sym, ap, _∙_}
 use mathlib.Core.Logic.{_⊎_, inl, inr, ⊎-elim, by-cases, _≢_, _↔_}
-use mathlib.Core.Bool.{Bool, true, false, not, _&&_, and-false}
+use mathlib.Core.Bool.{Bool, true, false, not, and-false}
 use mathlib.Core.List.{List, [], _∷_}
 use Prim.Native.Nat.{ℕ, zero, suc, _+_, _≤_, _<_}
 use native.Mathlib.Decide.{decLt, ℕ-discrete}
@@ -87,7 +87,8 @@ module _ {commands lengths : List ℕ} {g : ℕ → ℕ} {b r : List ℕ} {i : �
         H
 
     pub row-drawn : {s : List ℕ} → words (rows commands) ≤ length b → i < rows commands → j < rows commands → edges commands lengths g i j ≡ true
-        → Holds b r (rows commands) (Partly commands lengths g i j) → Puts r s (rows commands) i j → Holds b s (rows commands) (Partly commands lengths g i (j + 1))
+        → Holds b r (rows commands) (Partly commands lengths g i j) → Puts r s (rows commands) i j
+        → Holds b s (rows commands) (Partly commands lengths g i (j + 1))
     row-drawn {s} fits li lj t H T =
         let I : Inside (length r) (rows commands) i j = record { fits = omega (arith, H .len); from = li; to = lj } in
         rw (add-one j)
@@ -98,7 +99,8 @@ module _ {commands lengths : List ℕ} {g : ℕ → ℕ} {b r : List ℕ} {i : �
         ))
         (holds-more b r s (rows commands) i j (Partly commands lengths g i j) li lj H (T .within (place-in (length r) (rows commands) i j I))))
 
-    pub row-passed : edges commands lengths g i j ≡ false → Holds b r (rows commands) (Partly commands lengths g i j) → Holds b r (rows commands) (Partly commands lengths g i (j + 1))
+    pub row-passed : edges commands lengths g i j ≡ false → Holds b r (rows commands) (Partly commands lengths g i j)
+        → Holds b r (rows commands) (Partly commands lengths g i (j + 1))
     row-passed f H =
         rw (add-one j)
         (holds-map b r (rows commands) (Partly commands lengths g i j) (Partly commands lengths g i (suc j))

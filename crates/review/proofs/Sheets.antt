@@ -93,7 +93,8 @@ module _ (found : ℕ → Bool) (to : ℕ → Pair) where
   row-fits {commands} {s = s} {t = t} {i = i} {j = j} A l e =
       let n = row-total s t j e in
       let p : (i + 1) * rows commands ≡ i * rows commands + rows commands = rw (add-one i) (suc-mul i (rows commands)) in
-      let q : i * rows commands ≤ mostRows * rows commands = mul-le-mul-right {m = i} {n = mostRows} (rows commands) (omega (arith, A .row, A .keeps .few-rows)) in
+      let h : i ≤ mostRows = omega (arith, A .row, A .keeps .few-rows) in
+      let q : i * rows commands ≤ mostRows * rows commands = mul-le-mul-right {m = i} {n = mostRows} (rows commands) h in
       (omega (arith, A .few), omega (arith, A .few, A .keeps .few-rows))
 
 -- ---- the rows one after the other

@@ -1,5 +1,5 @@
 -- The tests, one after the other. Assumes nothing.
-use mathlib.Core.Path.{sym, ap, _∙_}
+use mathlib.Core.Path.{sym, _∙_}
 use borrow.Author.Tests.{lt-ltb, le-ltb, eq-eqb, ne-eqb, not-true, not-false}
 use Rattle.tables.specs.Limits.{mostRows}
 use Rattle.review.specs.Faults.{race}
@@ -27,10 +27,11 @@ returns-3 c =
 returns-4 : tie.Need-returns-4
 unfolding race
 returns-4 c =
+    let k = c .before .before .before .before in
     simp (
-      lt-ltb _ _ (c .before .before .before .before .before .before .before .if1 .left),
-      sym (c .before .before .before .before .before .before .conflict .ensures) ∙ not-false _ (c .before .before .before .before .before .if2 .left),
-      ne-eqb _ _ (λ e. c .before .before .if3 .left (c .before .before .before .before .thread-of .ensures ∙ e ∙ sym (c .before .before .before .thread-of2 .ensures))),
+      lt-ltb _ _ (k .before .before .before .if1 .left),
+      sym (k .before .before .conflict .ensures) ∙ not-false _ (k .before .if2 .left),
+      ne-eqb _ _ (λ e. c .before .before .if3 .left (k .thread-of .ensures ∙ e ∙ sym (c .before .before .before .thread-of2 .ensures))),
       c .before .related .ensures,
       c .related2 .ensures,
     )

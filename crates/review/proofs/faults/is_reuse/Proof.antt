@@ -1,5 +1,5 @@
 -- The tests, one after the other; a row that is not the first of its thread stands after one. Assumes nothing.
-use mathlib.Core.Path.{sym, ap, _∙_}
+use mathlib.Core.Path.{sym, _∙_}
 use native.Mathlib.Omega.{arith}
 use borrow.Author.Tests.{not-true, not-false}
 use Rattle.tables.specs.Limits.{mostRows}
@@ -15,7 +15,8 @@ returns c = simp (sym (c .before .succeeds .ensures) ∙ not-true _ (c .if1 .tak
 
 returns-2 : tie.Need-returns-2
 unfolding reuse
-returns-2 c = simp (sym (c .before .before .before .succeeds .ensures) ∙ not-false _ (c .before .before .if1 .left), sym (c .before .is-first .ensures) ∙ c .if2 .taken)
+returns-2 c =
+    simp (sym (c .before .before .before .succeeds .ensures) ∙ not-false _ (c .before .before .if1 .left), sym (c .before .is-first .ensures) ∙ c .if2 .taken)
 
 sub-related : tie.Need-sub-related
 sub-related c =
@@ -25,7 +26,12 @@ sub-related c =
 returns-3 : tie.Need-returns-3
 unfolding reuse
 returns-3 c =
-    simp (sym (c .before .before .before .before .succeeds .ensures) ∙ not-false _ (c .before .before .before .if1 .left), sym (c .before .before .is-first .ensures) ∙ c .before .if2 .left, ← c .related .ensures)
+    let k = c .before .before .before in
+    simp (
+      sym (k .before .succeeds .ensures) ∙ not-false _ (k .if1 .left),
+      sym (c .before .before .is-first .ensures) ∙ c .before .if2 .left,
+      ← c .related .ensures,
+    )
 
 pub is-reuse-spec : {M : Type 1} → statement M
 unfolding mostRows

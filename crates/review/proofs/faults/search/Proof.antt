@@ -7,7 +7,7 @@ use Rattle.tables.specs.Rows.{rows}
 use Rattle.relation.specs.Table.{related}
 use Rattle.review.specs.Order.{at}
 use Rattle.review.specs.Sheet.{sheetOf}
-use Rattle.review.specs.Faults.{faulty, pairOf, allRows, faults, addAll}
+use Rattle.review.specs.Faults.{faulty, pairOf, allRows, faults, addAll, Adds}
 use Rattle.review.proofs.Sheets.{addAll-sheet, row-fits, all-none, all-more}
 use borrow.Author.Needs.{needs}
 use Rattle.review.proofs.faults.search.Statement.{statement}
@@ -29,10 +29,12 @@ loop-holds c = (search needs, c .empty .ensures ∙ all-none _ _ _ _, rw (c .emp
 loop-again : tie.Need-loop-again Inv-loop μ-loop
 loop-again c =
     let l = c .before .before .loop in
-    let s = c .before .before .before .before .before .before .before .before in (
+    let s = c .before .before .before .before .before .before .before .before in
+    let A : Adds (s .args .commands .now) (s .args .lengths .now) (s .args .generations .now) (l .found) (l .i) =
+    record { keeps = s .pre .0; row = c .before .loop-test .taken; whole = s .pre .1; few = l .inv .2 } in (
       search needs,
       all-more _ _ _ (sheetOf []) (l .found) _ (l .i) (l .inv .1) (c .search-row .ensures),
-      row-fits _ _ {generations = s .args .generations .now} (record { keeps = s .pre .0; row = c .before .loop-test .taken; whole = s .pre .1; few = l .inv .2 }) (omega arith) (c .search-row .ensures) .0,
+      row-fits _ _ A (omega arith) (c .search-row .ensures) .0,
     )
 
 returns : tie.Need-returns Inv-loop μ-loop

@@ -15,7 +15,9 @@ use Rattle.review.proofs.faults.search_row.Statement.{statement}
 use Rattle.review.proofs.faults.search_row.Tie as tie
 
 abbrev Inv-loop : tie.InvT-loop
-Inv-loop fault commands lengths generations relation i m found₀ j₀ found j = (j ≤ rows commands) × (found ≡ addAll found₀ (alongRow (faulty commands lengths (at generations) (related relation (rows commands)) fault i) (pairOf fault i) j))
+Inv-loop fault commands lengths generations relation i m found₀ j₀ found j =
+    (j ≤ rows commands)
+    × (found ≡ addAll found₀ (alongRow (faulty commands lengths (at generations) (related relation (rows commands)) fault i) (pairOf fault i) j))
 
 abbrev μ-loop : tie.MeasureT-loop
 μ-loop fault commands lengths generations relation i m found₀ j₀ found j = rows commands - j

@@ -12,7 +12,8 @@ use Rattle.review.proofs.order.draw_row.Statement.{statement}
 use Rattle.review.proofs.order.draw_row.Tie as tie
 
 abbrev Inv-loop : tie.InvT-loop
-Inv-loop commands lengths generations relation₀ i m j₀ relation j = (j ≤ rows commands) × Holds relation₀ relation (rows commands) (Partly commands lengths (at generations) i j)
+Inv-loop commands lengths generations relation₀ i m j₀ relation j =
+    (j ≤ rows commands) × Holds relation₀ relation (rows commands) (Partly commands lengths (at generations) i j)
 
 abbrev μ-loop : tie.MeasureT-loop
 μ-loop commands lengths generations relation₀ i m j₀ relation j = rows commands - j
@@ -23,10 +24,10 @@ loop-holds c = (search needs, row-none (c .before .before .before .before .pre .
 loop-again : tie.Need-loop-again Inv-loop μ-loop
 loop-again c =
     let l = c .before .before .before .loop in
-    let s = c .before .before .before .before .before .before .before .before in
+    let p = c .before .before .before .before .before .before .before .before .pre in
     let e = sym (c .before .edge .ensures) in (
       search needs,
-      ⊎-elim (λ w. rw (w .5) (row-drawn (s .pre .1 .roomy .relation-fits) (s .pre .0) (c .before .before .loop-test .taken) (e ∙ w .0 .taken) (l .inv .1) (w .2 .ensures)))
+      ⊎-elim (λ w. rw (w .5) (row-drawn (p .1 .roomy .relation-fits) (p .0) (c .before .before .loop-test .taken) (e ∙ w .0 .taken) (l .inv .1) (w .2 .ensures)))
           (λ w. rw (w .1) (row-passed (e ∙ w .0 .left) (l .inv .1))) (c .if1 .came),
     )
 

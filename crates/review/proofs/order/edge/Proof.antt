@@ -9,12 +9,15 @@ use Rattle.review.proofs.order.edge.Statement.{statement}
 use Rattle.review.proofs.order.edge.Tie as tie
 
 returns : tie.Need-returns
-returns c = let a = c .before .before .before .before .args in sym (edge-same (a .commands .now) (a .lengths .now) (at (a .generations .now)) (a .i) (a .j) (c .if1 .taken))
+returns c =
+    let a = c .before .before .before .before .args in
+    sym (edge-same (a .commands .now) (a .lengths .now) (at (a .generations .now)) (a .i) (a .j) (c .if1 .taken))
 
 returns-2 : tie.Need-returns-2
 returns-2 c =
     let a = c .before .before .before .before .before .before .before .args in
-    sym (edge-along (a .commands .now) (a .lengths .now) (at (a .generations .now)) (a .i) (a .j) (c .before .before .if2 .taken) (sym (c .before .is-first .ensures) ∙ not-true _ (c .if3 .taken)))
+    sym (edge-along (a .commands .now) (a .lengths .now) (at (a .generations .now)) (a .i) (a .j) (c .before .before .if2 .taken)
+    (sym (c .before .is-first .ensures) ∙ not-true _ (c .if3 .taken)))
 
 returns-3 : tie.Need-returns-3
 returns-3 c =

@@ -1,6 +1,6 @@
 -- The thread of a row is at most the number of threads, which is within the limit. Assumes nothing.
 use mathlib.Core.Path.{_≡_, ap, _∙_}
-use Prim.Native.Nat.{ℕ, min}
+use Prim.Native.Nat.{min}
 use native.Mathlib.Omega.{arith}
 use lib.Dec.{eqb}
 use Rattle.tables.specs.Limits.{mostThreads}

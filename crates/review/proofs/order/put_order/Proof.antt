@@ -10,8 +10,9 @@ draw-requires c κs = none-go-on (c .before .before .before .before .before .bef
 
 returns : tie.Need-returns
 returns c =
-    ordered (c .before .before .before .before .before .before .before .before .before .before .before .before .before .before .before .before .pre) (c .before .before .before .before .before .before .before .before .before .before .clear .ensures)
-    (c .before .before .before .before .before .before .draw .ensures) (c .before .before .close .ensures)
+    let d = c .before .before .before .before .before .before in
+    let k = d .before .before .before .before in
+    ordered (k .before .before .before .before .before .before .pre) (k .clear .ensures) (d .draw .ensures) (c .before .before .close .ensures)
 
 pub put-order-spec : {M : Type 1} → statement M
 unfolding mostRows

@@ -1,7 +1,6 @@
 -- Each place is 0. Assumes nothing.
 use Rattle.review.specs.Sheet.{sheetOf, firsts, mostKept}
 use mathlib.Core.Path.{refl}
-use borrow.Author.Needs.{needs}
 use Rattle.review.proofs.sheet.Sheet.empty.Statement.{statement}
 use Rattle.review.proofs.sheet.Sheet.empty.Tie as tie
 
