@@ -117,6 +117,10 @@ all-listed found to m =
           rw s (seam (upTo found to m i j) rest (to i j) .0);
     }
 
+pair-one : (f : Fault) {i j x y : ℕ} → pairOf f i j ≡ pairOf f x y → (i ≡ x) × (j ≡ y)
+pair-one fault.Reuse e = (ap (λ (p : Pair). p .second) e, ap (λ (p : Pair). p .first) e)
+pair-one fault.Race e = (ap (λ (p : Pair). p .first) e, ap (λ (p : Pair). p .second) e)
+
 module _ (commands lengths : List ℕ) (g : ℕ → ℕ) (ρ : ℕ → ℕ → Bool) (f : Fault) where
   abbrev m : ℕ
   m = rows commands
@@ -124,6 +128,14 @@ module _ (commands lengths : List ℕ) (g : ℕ → ℕ) (ρ : ℕ → ℕ → B
   pub in-order : Listed (faulty commands lengths g ρ f) (pairOf f) m (faults commands lengths g ρ f)
   unfolding faults
   in-order = all-listed (faulty commands lengths g ρ f) (pairOf f) m
+
+  -- a pair has one place
+  pub once : (i j k : ℕ) → k < length (faults commands lengths g ρ f) → getD (faults commands lengths g ρ f) k (sheet.pair 0 0) ≡ pairOf f i j
+      → in-order .place i j ≡ k
+  once i j k l e =
+      let (x, y, lx, ly, t, q) = in-order .only k l in
+      let (a, b) = pair-one f (sym (rw q at (in-order .there x y lx ly t .1)) ∙ e) in
+      rw (sym a, sym b) q
 
   pub no-faults : faults commands lengths g ρ f ≡ [] → (i j : ℕ) → i < m → j < m → faulty commands lengths g ρ f i j ≡ false
   no-faults e i j li lj = isnt _ (λ t. absurd (omega (arith, in-order .there i j li lj t .0, ap length e)))

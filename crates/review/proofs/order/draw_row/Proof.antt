@@ -27,7 +27,8 @@ loop-again c =
     let p = c .before .before .before .before .before .before .before .before .pre in
     let e = sym (c .before .edge .ensures) in (
       search needs,
-      ⊎-elim (λ w. rw (w .5) (row-drawn (p .1 .roomy .relation-fits) (p .0) (c .before .before .loop-test .taken) (e ∙ w .0 .taken) (l .inv .1) (w .2 .ensures)))
+      ⊎-elim (λ w. rw (w .5) (row-drawn (p .1 .roomy .relation-fits) (p .0) (c .before .before .loop-test .taken) (e ∙ w .0 .taken) (l .inv .1)
+          (w .2 .ensures)))
           (λ w. rw (w .1) (row-passed (e ∙ w .0 .left) (l .inv .1))) (c .if1 .came),
     )
 
