@@ -102,6 +102,17 @@ holds-map b a m R S h H =
       kept = H .kept;
     }
 
+-- a room that is written twice holds what was written last
+pub holds-trans : (b r s : List ℕ) (m : ℕ) (R S : ℕ → ℕ → Type 0) → Holds b r m R → Holds r s m S → Holds b s m S
+holds-trans b r s m R S H K = record { len = K .len ∙ H .len; bits = K .bits; padding = K .padding; kept = λ p h. K .kept p h ∙ H .kept p h }
+
+pub holds-self : (b r : List ℕ) (m : ℕ) (R : ℕ → ℕ → Type 0) → Holds b r m R → Holds r r m R
+holds-self b r m R H = record { len = refl; bits = H .bits; padding = H .padding; kept = λ p h. refl }
+
+-- what a door writes where there is room
+pub wrote : {R : ℕ → ℕ → Type 0} {b a : List ℕ} {m : ℕ} {said : Bool} → words m ≤ length b → Writes R b a m said → Holds b a m R
+wrote {b = b} {m = m} fits W = W .holds (W .answer ∙ le-leb (words m) (length b) fits)
+
 -- a door that finds room and writes, and one that finds none
 pub written : (R : ℕ → ℕ → Type 0) (b a : List ℕ) (m : ℕ) → words m ≤ length b → Holds b a m R → Writes R b a m true
 written R b a m fits H = record { answer = sym (le-leb (words m) (length b) fits); refused = λ f. clashing refl f; holds = λ t. H }

@@ -62,7 +62,7 @@ module _ {rowsOf lengths : List ℕ} (K : Keeps rowsOf lengths) (g : ℕ → ℕ
       (λ (e : reach (program rowsOf lengths) g x y ≡ false).
       ⊎-elim (λ (f : reach (program rowsOf lengths) g y x ≡ true). inr (b f))
       (λ (f : reach (program rowsOf lengths) g y x ≡ false). clashing
-      (race-is K g x y lx ly .1 (l, c, ne, (λ r. clashing (decides (program rowsOf lengths) g x y lx ly .1 r) e), (λ r. clashing (decides (program rowsOf lengths) g y x ly lx .1 r) f)))
+      (race-is rowsOf lengths g x y lx ly .1 (l, c, ne, (λ r. clashing (decides (program rowsOf lengths) g x y lx ly .1 r) e), (λ r. clashing (decides (program rowsOf lengths) g y x ly lx .1 r) f)))
       (no-faults rowsOf lengths g _ fault.Race none x y lx ly))
       (split (reach (program rowsOf lengths) g y x)))
       (split (reach (program rowsOf lengths) g x y)))

@@ -118,7 +118,7 @@ module _ {rowsOf lengths : List ℕ} (K : Keeps rowsOf lengths) (σ : List ℕ) 
                 ⊎-elim
                 (λ w.
                 let R = reuse-same P (λ c l. sym (same c l)) (w .2) in
-                clashing (reuse-is K g (w .0) (w .1) (R .succeeds .low₁) (R .succeeds .low₂) .1 R)
+                clashing (reuse-is rowsOf lengths g K (w .0) (w .1) (R .succeeds .low₁) (R .succeeds .low₂) .1 R)
                 (no-faults rowsOf lengths g (reach P g) fault.Reuse none (w .1) (w .0) (R .succeeds .low₂) (R .succeeds .low₁)))
                 (λ N. N)
                 (decided P (threads.gens P H (reverse σ)));
@@ -140,7 +140,7 @@ module _ {rowsOf lengths : List ℕ} (K : Keeps rowsOf lengths) (σ : List ℕ) 
 
       judges-race : (x y : ℕ) → x < rows rowsOf → y < rows rowsOf → race rowsOf lengths (reach P g) x y ≡ true → Judges rowsOf lengths σ 11
       judges-race x y lx ly e =
-          let (l, c, _, a, b) = race-is K g x y lx ly .0 e in
+          let (l, c, _, a, b) = race-is rowsOf lengths g x y lx ly .0 e in
           let ne : x ≢ y = λ q. omega arith in
           record {
             agreement = ((λ _. (stopped (C .through) (C .stops), agree)), λ _. inr refl);
@@ -173,10 +173,10 @@ module _ {rowsOf lengths : List ℕ} (K : Keeps rowsOf lengths) (σ : List ℕ) 
         by : (ps qs : List Pair) → faults rowsOf lengths g (reach P g) fault.Reuse ≡ ps → faults rowsOf lengths g (reach P g) fault.Race ≡ qs
             → Judges rowsOf lengths σ (firstPair 10 ps (firstPair 11 qs (tell 0 0 0)) .number)
         by (p ∷ ps) qs e f =
-            let (c₂, c₁, l₂, l₁, h, _) = some-fault rowsOf lengths g (reach P g) fault.Reuse p ps e in
-            judges-reuse c₁ c₂ (reuse-is K g c₁ c₂ l₁ l₂ .0 h)
+            let (c₂, c₁, l₂, l₁, h, _) = some-fault rowsOf lengths g (reach P g) fault.Reuse e in
+            judges-reuse c₁ c₂ (reuse-is rowsOf lengths g K c₁ c₂ l₁ l₂ .0 h)
         by [] (q ∷ qs) e f =
-            let (x, y, lx, ly, h, _) = some-fault rowsOf lengths g (reach P g) fault.Race q qs f in
+            let (x, y, lx, ly, h, _) = some-fault rowsOf lengths g (reach P g) fault.Race f in
             judges-race e x y lx ly h
         by [] [] e f = judges-clear e f
 

@@ -4,7 +4,7 @@
 -- stand for), Few (how long a schedule is), Ties (the two states beside each other), Tied (one step of both), Standing and Replaying (what loops need).
 -- Whole schedules: Plays (a replay), Schedules (legal, complete and clean are the same for both), Writing (the schedule writer), Precede (what stands
 -- before what), Agreements.
--- Verdicts, faults and demand 3: Refusals, Pairs, Conflicts, Judging.
+-- Verdicts, rooms, faults and demand 3: Refusals, Rooms (what goes into the two rooms), Sheets, Pairs (which pairs, in what order), Conflicts, Judging.
 pub mod Fronts
 pub mod Scans
 pub mod Registering
@@ -24,6 +24,8 @@ pub mod Writing
 pub mod Precede
 pub mod Agreements
 pub mod Refusals
+pub mod Rooms
+pub mod Sheets
 pub mod Pairs
 pub mod Conflicts
 pub mod Judging

@@ -96,6 +96,10 @@ module _ (commands lengths before : List ℕ) where
     pub writing-long : length room ≡ length before
     writing-long = omega (arith, ap length (W .room-is), length-append (W .front) (drop i before), length-drop i before, W .long, W .few, W .fits)
 
+    -- the thread that steps is one, or the number of threads
+    pub writing-thread : {t : ℕ} → t ≡ lowestAllowed lengths s → t ≤ length lengths
+    writing-thread e = omega (arith, lowest-first (allowed lengths s) (length lengths) .at-most)
+
     filled : lowestFirst commands lengths (rows commands - i) s ≡ [] → Filled commands lengths before room i
     filled e =
         let f : schedule commands lengths ≡ W .front = W .rest-is ∙ ap (λ (l : List ℕ). W .front ++ l) e ∙ append-nil (W .front) in

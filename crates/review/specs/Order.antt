@@ -77,5 +77,4 @@ Drawn commands lengths generations before after i = Holds before after (rows com
 
 pub record Ordering (commands lengths generations relation : List ℕ) (i : ℕ) : Type 0 where
   pub roomy : Roomy commands lengths generations relation
-  pub below : i ≤ rows commands
   pub drawn : Drawn commands lengths generations relation relation i

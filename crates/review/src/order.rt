@@ -1,6 +1,6 @@
 // What a clean replay tells: generations into their room, and happens-before into its room.
 ghost use mathlib.Core.Path.{_≡_};
-ghost use Prim.Native.Nat.{_≤_, suc};
+ghost use Prim.Native.Nat.{_≤_, _<_, suc};
 ghost use lib.ListN.{length};
 ghost use Rattle.tables.specs.Limits.{mostThreads, mostRows};
 ghost use Rattle.tables.specs.Rows.{rows, isFirst};
@@ -62,7 +62,7 @@ fn edge(commands: &[u32], lengths: &[u32], generations: &[u32], i: usize, j: usi
 
 // The edges from i, in a room that has those from the numbers below i.
 fn draw_row(commands: &[u32], lengths: &[u32], generations: &[u32], relation: &mut [u32], i: usize)
-    requires { ⌜ Ordering (now commands) (now lengths) (now generations) (now relation) i ⌝ }
+    requires { ⌜ (i < rows (now commands)) × Ordering (now commands) (now lengths) (now generations) (now relation) i ⌝ }
     ensures { λ r. ⌜ Drawn (now (commands .entry)) (now (lengths .entry)) (now (generations .entry)) (now (relation .entry)) (now (relation .exit)) (suc i) ⌝ }
 {
     let m = commands.len() / 3;

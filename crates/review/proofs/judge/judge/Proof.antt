@@ -2,6 +2,7 @@
 use mathlib.Core.Path.{_≡_, sym, _∙_}
 use borrow.Author.Needs.{needs}
 use Rattle.tables.proofs.Verdicts.{zero-clean}
+use Rattle.review.specs.Ending.{ended}
 use Rattle.review.specs.Judge.{judged}
 use Rattle.review.proofs.Refusals.{number-is, said-first, said-second}
 use Rattle.review.proofs.judge.judge.Statement.{statement}
@@ -9,16 +10,21 @@ use Rattle.review.proofs.judge.judge.Tie as tie
 
 returns : tie.Need-returns
 unfolding judged
-returns c = said-first _ (c .before .before .number .ensures) _ (c .if1 .taken)
+returns c =
+    let n = c .before .before in
+    said-first (n .before .before .args .replayed .verdict) (n .number .ensures) (ended _ _ _) (c .if1 .taken)
 
 ending-requires : tie.Need-ending-requires
 ending-requires c κs =
     let n = c .before .before in
-    n .before .before .pre .ends (zero-clean _ (sym (number-is _ (n .number .ensures)) ∙ c .if1 .left))
+    let v = n .before .before .args .replayed .verdict in
+    n .before .before .pre .ends (zero-clean v (sym (number-is v (n .number .ensures)) ∙ c .if1 .left))
 
 returns-2 : tie.Need-returns-2
 unfolding judged
-returns-2 c = c .ending .ensures ∙ said-second _ (c .before .before .before .number .ensures) _ (c .before .if1 .left)
+returns-2 c =
+    let n = c .before .before .before in
+    c .ending .ensures ∙ said-second (n .before .before .args .replayed .verdict) (n .number .ensures) (ended _ _ _) (c .before .if1 .left)
 
 pub judge-spec : {M : Type 1} → statement M
 judge-spec = tie.close (tie.spec (λ c κs. search needs) returns ending-requires returns-2)

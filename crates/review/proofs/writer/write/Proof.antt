@@ -5,10 +5,10 @@ use native.Mathlib.Omega.{arith}
 use lib.ListN.{length, length-set}
 use borrow.Author.Needs.{needs}
 use borrow.Author.Tests.{not-true, not-false}
-use Rattle.tables.specs.Limits.{mostRows, mostThreads}
+use Rattle.tables.specs.Limits.{mostThreads}
 use Rattle.tables.specs.Rows.{rows}
 use Rattle.review.proofs.Standing.{standing-counts}
-use Rattle.review.proofs.Writing.{Writing, writing-start, writing-long, writing-end, writing-none, writing-more, writing-last}
+use Rattle.review.proofs.Writing.{Writing, writing-start, writing-long, writing-end, writing-none, writing-thread, writing-more, writing-last}
 use Rattle.review.proofs.writer.write.Statement.{statement}
 use Rattle.review.proofs.writer.write.Tie as tie
 
@@ -44,7 +44,7 @@ cast-room : tie.Need-cast-room Inv-loop μ-loop
 unfolding mostThreads
 cast-room c =
     let W = c .before .before .before .loop .inv .0 in
-    omega (arith, W .standing .keeps .few-threads, c .before .lowest-allowed .ensures, lowest-first (allowed _ _) (length _) .at-most)
+    omega (arith, W .standing .keeps .few-threads, writing-thread _ _ _ W (c .before .lowest-allowed .ensures))
 
 same-length-2 : tie.Need-same-length-2 Inv-loop μ-loop
 same-length-2 c =
@@ -84,7 +84,7 @@ write-spec =
     lowest-allowed-requires
     same-length
     returns
-    (λ c. search needs)
+    cast-room
     (λ c. search needs)
     slice-write-room
     (λ c. search needs)
