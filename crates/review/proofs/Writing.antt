@@ -46,7 +46,7 @@ module _ {commands lengths : List ℕ} (K : Keeps commands lengths) where
   -- one step, where the steps after it are known to be complete
   one-more : (n : ℕ) (υ : List ℕ) (s : Replay) → Stands K υ s
       → ((t : ℕ) → Stands K (t ∷ υ) (stepped commands lengths s t .after)
-         → threads.Complete P H (reverseAux (lowestFirst commands lengths n (stepped commands lengths s t .after)) (t ∷ υ)))
+      → threads.Complete P H (reverseAux (lowestFirst commands lengths n (stepped commands lengths s t .after)) (t ∷ υ)))
       → threads.Complete P H (reverseAux (lowestFirst commands lengths (suc n) s) υ)
   unfolding lowestFirst
   one-more n υ s S rest =
@@ -57,8 +57,8 @@ module _ {commands lengths : List ℕ} (K : Keeps commands lengths) where
     where
       by : threads.Steps P H υ (lowestAllowed lengths s) → Outcome K υ s (lowestAllowed lengths s)
           → threads.Complete P H (reverseAux (lowestAllowed lengths s
-            ∷ cond (goesOn (stepped commands lengths s (lowestAllowed lengths s) .did))
-              (lowestFirst commands lengths n (stepped commands lengths s (lowestAllowed lengths s) .after)) []) υ)
+          ∷ cond (goesOn (stepped commands lengths s (lowestAllowed lengths s) .did))
+          (lowestFirst commands lengths n (stepped commands lengths s (lowestAllowed lengths s) .after)) []) υ)
       by st (ran q m R) = rw q (rest _ R)
       by st (mismatched q k m) = rw q (threads.mismatched (S .legal) st m)
 

@@ -63,9 +63,11 @@ loop-again : tie.Need-loop-again Inv-loop μ-loop
 loop-again c =
     let q = c .before .before .before in
     let w = q .before .before in
-    let l = w .before .before .loop in
-    (writing-more _ _ _ (l .inv .0) (omega (arith, l .inv .1, w .before .loop-test .taken)) _ (w .lowest-allowed .ensures) (q .before .if1 .left) (q .step .result) (q .step .ensures)
-    (sym (not-false _ (c .if2 .left)) ∙ c .before .goes-on .ensures), l .inv .1)
+    let l = w .before .before .loop in (
+      writing-more _ _ _ (l .inv .0) (omega (arith, l .inv .1, w .before .loop-test .taken)) _ (w .lowest-allowed .ensures) (q .before .if1 .left) (q .step .result) (q .step .ensures)
+          (sym (not-false _ (c .if2 .left)) ∙ c .before .goes-on .ensures),
+      l .inv .1,
+    )
 
 same-length-3 : tie.Need-same-length-3 Inv-loop μ-loop
 same-length-3 c = writing-long _ _ _ (c .before .loop .inv .0)
