@@ -14,3 +14,4 @@ pub mod Agreements
 pub mod Pairs
 pub mod Conflicts
 pub mod Judging
+pub mod Examples

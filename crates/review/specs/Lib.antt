@@ -14,3 +14,4 @@ pub mod Faults
 pub mod Judge
 pub mod Schedules
 pub mod Agreement
+pub mod Examples
