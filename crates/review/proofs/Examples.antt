@@ -1,4 +1,4 @@
--- The starred examples of document 01, about the definitions: both sides compute to the same. Assumes nothing.
+-- Each starred example of document 01 holds of the definitions: the test of the whole table computes to true. Assumes nothing.
 use mathlib.Core.Path.{_≡_, refl}
 use mathlib.Core.Bool.{true}
 use Rattle.tables.specs.Limits.{mostRows, mostThreads, addresses, barriers, mostCount}
