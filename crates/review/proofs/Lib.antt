@@ -5,6 +5,7 @@
 -- Whole schedules: Plays (a replay), Schedules (legal, complete and clean are the same for both), Writing (the schedule writer), Precede (what stands
 -- before what), Agreements.
 -- Verdicts, rooms, faults and demand 3: Refusals, Rooms (what goes into the two rooms), Sheets, Pairs (which pairs, in what order), Conflicts, Judging.
+-- By itself: Examples (document 01's starred ones).
 pub mod Fronts
 pub mod Scans
 pub mod Registering
@@ -29,3 +30,4 @@ pub mod Sheets
 pub mod Pairs
 pub mod Conflicts
 pub mod Judging
+pub mod Examples
