@@ -4,7 +4,8 @@
 -- stand for), Few (how long a schedule is), Ties (the two states beside each other), Tied (one step of both), Standing and Replaying (what loops need).
 -- Whole schedules: Plays (a replay), Schedules (legal, complete and clean are the same for both), Writing (the schedule writer), Precede (what stands
 -- before what), Agreements.
--- Verdicts, rooms, faults and demand 3: Refusals, Rooms (what goes into the two rooms), Sheets, Pairs (which pairs, in what order), Conflicts, Judging.
+-- Verdicts, rooms, faults and demand 3: Refusals, Rooms (what goes into the two rooms), Sheets, Looks (what a search tells), Pairs (which pairs, in what order), Conflicts, Judging,
+-- Reviews (the contract).
 -- By itself: Examples (document 01's starred ones).
 pub mod Fronts
 pub mod Scans
@@ -27,7 +28,9 @@ pub mod Agreements
 pub mod Refusals
 pub mod Rooms
 pub mod Sheets
+pub mod Looks
 pub mod Pairs
 pub mod Conflicts
 pub mod Judging
+pub mod Reviews
 pub mod Examples

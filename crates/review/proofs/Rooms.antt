@@ -2,13 +2,14 @@
 use mathlib.Core.Path.{_≡_, refl, sym, ap, _∙_}
 use mathlib.Core.Logic.{_⊎_, inl, inr, ⊎-elim, by-cases, _≢_, _↔_}
 use mathlib.Core.Bool.{Bool, true, false, not, and-false}
-use mathlib.Core.List.{List, [], _∷_}
-use Prim.Native.Nat.{ℕ, zero, suc, _+_, _≤_, _<_}
+use mathlib.Core.List.{List, [], _∷_, _++_}
+use Prim.Native.Nat.{ℕ, zero, suc, _+_, _-_, _≤_, _<_}
 use native.Mathlib.Decide.{decLt, ℕ-discrete}
 use native.Mathlib.Numerals.{add-one}
 use native.Mathlib.Omega.{arith}
 use lib.Dec.{eqb}
-use lib.ListN.{length, getD, set}
+use lib.ListN.{length, getD, set, take, drop}
+use lib.Seq.{length-take-le, getD-take, getD-drop, getD-append-add}
 use borrow.Author.Tests.{eq-eqb, ne-eqb}
 use Rattle.tables.specs.Rows.{rows, isFirst}
 use Rattle.relation.specs.Chains.{Chain, On}
@@ -31,6 +32,22 @@ put-suc (x ∷ g) (y ∷ r) (suc n) l h = ap (λ (t : List ℕ). x ∷ t) (put-s
 
 pub put-more : (g r : List ℕ) (n : ℕ) → n < length g → n < length r → set (put g n r) n (getD g n 0) ≡ put g (n + 1) r
 put-more g r n l h = rw add-one (put-suc g r n l h)
+
+-- the numbers that were put stand in front, and the room beyond is kept
+front : (l r : List ℕ) (c : ℕ) → c < length l → getD (l ++ r) c 0 ≡ getD l c 0
+front [] r c h = absurd (omega arith)
+front (x ∷ l) r zero h = refl
+front (x ∷ l) r (suc c) h = front l r c (omega arith)
+
+module _ (g r : List ℕ) (m : ℕ) (fits : m ≤ length g) where
+  pub put-front : (c : ℕ) → c < m → getD (put g m r) c 0 ≡ getD g c 0
+  put-front c l = front (take m g) (drop m r) c (omega (arith, length-take-le m g fits)) ∙ getD-take m g c 0 l
+
+  pub put-beyond : (p : ℕ) → m ≤ p → getD (put g m r) p 0 ≡ getD r p 0
+  put-beyond p l =
+      let e : p ≡ length (take m g) + (p - m) = omega (arith, length-take-le m g fits) in
+      let q : m + (p - m) ≡ p = omega arith in
+      ap (λ (n : ℕ). getD (put g m r) n 0) e ∙ getD-append-add (take m g) (drop m r) (p - m) 0 ∙ getD-drop m r (p - m) 0 ∙ ap (λ (n : ℕ). getD r n 0) q
 
 -- ---- each edge
 

@@ -121,3 +121,15 @@ module _ (k n c : ℕ) (e : rowKeeps k n c ≡ true) where
 
   pub row-kind : k ≤ sync
   row-kind = by-cases (decLt k arrive) (λ (l : k < arrive). omega arith) (λ (l : ¬ (k < arrive)). row-barrier (omega arith) .0)
+
+-- number 0 is told of tables that keep the rules, and of no others
+zero-answer : (a b d : Bool) (i : ℕ) → answer a b d i .number ≡ 0 → answer a b d i ≡ tell 0 0 0
+zero-answer true b d i e = absurd (omega arith)
+zero-answer false true d i e = absurd (omega arith)
+zero-answer false false true i e = absurd (omega arith)
+zero-answer false false false i e = refl
+
+pub passes-zero : (commands lengths : List ℕ) → checked commands lengths .number ≡ 0 → Keeps commands lengths
+unfolding checked
+passes-zero commands lengths e =
+    passes commands lengths (zero-answer (badCommands commands) (badLengths commands lengths) (ltb (firstBad commands) (rows commands)) (firstBad commands) e)

@@ -1,0 +1,219 @@
+-- The contract of `review` from what its parts found: refused, judged, or filled. Assumes nothing.
+use mathlib.Core.Path.{_≡_, refl, sym, ap, _∙_, subst}
+use mathlib.Core.Logic.{_⊎_, inl, inr, by-cases, _≢_}
+use mathlib.Core.Bool.{Bool, true, false, cond}
+use mathlib.Core.List.{List, [], _∷_, _++_}
+use Prim.Native.Nat.{ℕ, _≤_, _<_}
+use native.Mathlib.Omega.{arith}
+use native.Mathlib.Decide.{decLt, ℕ-discrete}
+use lib.Dec.{eqb, ltb}
+use lib.ListN.{length, getD, take, drop}
+use borrow.Author.Tests.{eq-eqb, ne-eqb, lt-ltb, ltb-false}
+use Rattle.tables.specs.Limits.{mostRows, barriers}
+use Rattle.tables.specs.Rows.{rows}
+use Rattle.tables.specs.Rules.{Keeps, checked}
+use Rattle.tables.specs.Verdicts.{tell, numbered}
+use Rattle.tables.specs.declared.verdict.Told.{Told}
+use Rattle.tables.specs.declared.verdict.Verdict.{Verdict}
+use Rattle.tables.specs.declared.verdict.Verdict.the-variants as verdict
+use Rattle.tables.proofs.Rules.{passes-zero, checked-small}
+use Rattle.tables.proofs.Verdicts.{zero-clean}
+use Rattle.relation.specs.Table.{words, related}
+use Rattle.relation.proofs.Truth.{split, clashing}
+use Rattle.review.specs.declared.sheet.Pair.{Pair}
+use Rattle.review.specs.declared.state.Replay.{Replay}
+use Rattle.review.specs.declared.replay.Replayed.{Replayed}
+use Rattle.review.specs.declared.faults.Fault.{Fault}
+use Rattle.review.specs.declared.faults.Fault.the-variants.{Reuse, Race}
+use Rattle.review.specs.declared.judge.Finding.{Finding}
+use Rattle.review.specs.InOrder.{orElse}
+use Rattle.review.specs.Replay.{played}
+use Rattle.review.specs.Ending.{lowestAllowed, lowestBlocked, lowestSet, ended}
+use Rattle.review.specs.Order.{at, put, Reached}
+use Rattle.review.specs.Faults.{faults}
+use Rattle.review.specs.Sheet.{sheetOf}
+use Rattle.review.specs.Judge.{shortRooms, refused, judged, firstPair, faultTold, Looked, generations, reaches, verdictOf, fills}
+use Rattle.review.specs.Agreement.{number, Safe, Exact, Judges, Reviewed}
+use Rattle.review.proofs.Refusals.{or-first, or-second}
+use Rattle.review.proofs.Plays.{Ends, through, refused-at, mismatched-at, plays-all, Through, clean-through}
+use Rattle.review.proofs.Rooms.{put-front, put-beyond, same-reached, related-reaches}
+use Rattle.review.proofs.Pairs.{same-faults}
+use Rattle.review.proofs.Judging.{told, judges}
+
+-- ---- refusals 1 to 4
+
+-- tables and rooms that pass them
+pub record Admitted (commands lengths : List ℕ) (relation generations : ℕ) : Type 0 where
+  pub keeps : Keeps commands lengths
+  pub relation-fits : words (rows commands) ≤ relation
+  pub generations-fit : rows commands ≤ generations
+
+module _ (commands lengths : List ℕ) (relation generations : ℕ) where
+  small-rooms : (a b : Bool) → cond a (tell 4 0 0) (cond b (tell 4 1 0) (tell 0 0 0)) .number ≤ 4
+  small-rooms true b = omega arith
+  small-rooms false true = omega arith
+  small-rooms false false = omega arith
+
+  refused-small : refused commands lengths relation generations .number ≤ 4
+  unfolding refused
+  refused-small =
+      by-cases (ℕ-discrete (checked commands lengths .number) 0)
+      (λ (e : checked commands lengths .number ≡ 0). rw (eq-eqb _ _ e) (small-rooms (ltb relation (words (rows commands))) (ltb generations (rows commands))))
+      (λ (n : checked commands lengths .number ≢ 0). rw (ne-eqb _ _ n) (omega (arith, checked-small commands lengths)))
+
+  big-rooms : (a b : Bool) → cond a (tell 4 0 0) (cond b (tell 4 1 0) (tell 0 0 0)) .number ≡ 0 → (a ≡ false) × (b ≡ false)
+  big-rooms true b e = absurd (omega arith)
+  big-rooms false true e = absurd (omega arith)
+  big-rooms false false e = (refl, refl)
+
+  pub admitted : refused commands lengths relation generations .number ≡ 0 → Admitted commands lengths relation generations
+  unfolding refused
+  admitted e =
+      by-cases (ℕ-discrete (checked commands lengths .number) 0)
+      (λ (z : checked commands lengths .number ≡ 0).
+      let q : shortRooms (rows commands) relation generations .number ≡ 0 = rw (eq-eqb _ _ z) at e in
+      let (a, b) = big-rooms (ltb relation (words (rows commands))) (ltb generations (rows commands)) q in
+      record { keeps = passes-zero commands lengths z; relation-fits = ltb-false _ _ a; generations-fit = ltb-false _ _ b })
+      (λ (n : checked commands lengths .number ≢ 0). absurd (n (rw (ne-eqb _ _ n) at e)))
+
+-- ---- 5 to 9
+
+ended-small : (a b d : Bool) (p q r : ℕ) → cond a (tell 6 p 0) (cond b (tell 8 q 0) (cond d (tell 9 r 0) (tell 0 0 0))) .number ≤ 9
+ended-small true b d p q r = omega arith
+ended-small false true d p q r = omega arith
+ended-small false false true p q r = omega arith
+ended-small false false false p q r = omega arith
+
+judged-small : {commands lengths : List ℕ} → Keeps commands lengths → (σ : List ℕ) → judged lengths (played commands lengths σ) .number ≤ 9
+unfolding judged ended
+judged-small {commands} {lengths} K σ = by (plays-all K σ)
+  where
+    by : Ends K σ [] (played commands lengths σ) 0 → judged lengths (played commands lengths σ) .number ≤ 9
+    by (through S G v e) = rw v (ended-small (ltb (lowestAllowed lengths s) (length lengths)) (ltb (lowestBlocked lengths s) (length lengths)) (ltb (lowestSet s) barriers) _ _ _)
+      where
+        s : Replay
+        s = played commands lengths σ .state
+    by (refused-at e nay v) = rw v (omega arith)
+    by (mismatched-at e st m v) = rw v (omega arith)
+
+-- a replay that is told 0 went through
+clean-verdict : (lengths : List ℕ) (r : Replayed) → judged lengths r .number ≡ 0 → r .verdict ≡ verdict.Clean
+unfolding judged
+clean-verdict lengths r e =
+    by-cases (ℕ-discrete (numbered (r .verdict) .number) 0) (λ (z : numbered (r .verdict) .number ≡ 0). zero-clean (r .verdict) z)
+    (λ (n : numbered (r .verdict) .number ≢ 0). absurd (n (rw (ne-eqb _ _ n) at e)))
+
+-- ---- which verdicts fill the rooms
+
+no-fill : (n : ℕ) → n ≢ 0 → n ≤ 9 → fills n ≡ false
+no-fill n a l = rw (ne-eqb n 0 a, ne-eqb n 10 (λ e. omega arith), ne-eqb n 11 (λ e. omega arith))
+
+fault-small : (ps qs : List Pair) → firstPair 10 ps (firstPair 11 qs (tell 0 0 0)) .number ≤ 11
+fault-small (p ∷ ps) qs = omega arith
+fault-small [] (q ∷ qs) = omega arith
+fault-small [] [] = omega arith
+
+fault-fills : (ps qs : List Pair) → fills (firstPair 10 ps (firstPair 11 qs (tell 0 0 0)) .number) ≡ true
+fault-fills (p ∷ ps) qs = refl
+fault-fills [] (q ∷ qs) = refl
+fault-fills [] [] = refl
+
+-- ---- the contract
+
+module _ (commands lengths σ relation room : List ℕ) where
+  abbrev verdicts : Told
+  verdicts = verdictOf commands lengths σ (length relation) (length room)
+
+  abbrev refusal : Told
+  refusal = refused commands lengths (length relation) (length room)
+
+  -- demand 3 follows from the verdict
+  third : (v : Verdict) → numbered v ≡ verdicts → refusal ≡ tell 0 0 0 → Judges commands lengths σ (numbered v .number)
+  unfolding verdictOf
+  third v e z =
+      let pass : refusal .number ≡ 0 = ap (λ (t : Told). t .number) z in
+      let K = admitted commands lengths (length relation) (length room) pass .keeps in
+      subst (Judges commands lengths σ) (ap (λ (t : Told). t .number) (or-second refusal (told K σ) pass ∙ sym e)) (judges K σ)
+
+  unfilled : (v : Verdict) → numbered v ≡ verdicts → numbered v .number ≢ 0 → numbered v .number ≤ 9
+      → Reviewed commands lengths σ relation room (record { verdict = v; sheet = sheetOf [] }) relation room
+  unfilled v e n l =
+      let f = no-fill (numbered v .number) n l in
+      record {
+        demand₁ =
+            record {
+              told = omega arith;
+              empty = λ _. refl;
+              relation-kept = λ _. refl;
+              room-kept = λ _. refl;
+              relation-beyond = λ p h. refl;
+              room-beyond = λ p h. refl;
+            };
+        demand₂ =
+            record { verdict = e; sheet = λ t. clashing t f; relation-holds = λ t. clashing t f; room-holds = λ t. clashing t f };
+        demand₃ = third v e;
+      }
+
+  -- 1 to 4
+  pub reviewed-refused : (v : Verdict) → numbered v ≡ refusal → numbered v .number ≢ 0
+      → Reviewed commands lengths σ relation room (record { verdict = v; sheet = sheetOf [] }) relation room
+  unfolding verdictOf
+  reviewed-refused v e n =
+      unfilled v (e ∙ or-first refusal _ (λ z. n (ap (λ (t : Told). t .number) e ∙ z))) n
+      (omega (arith, ap (λ (t : Told). t .number) e, refused-small commands lengths (length relation) (length room)))
+
+  module _ (pass : refusal .number ≡ 0) where
+    A : Admitted commands lengths (length relation) (length room)
+    A = admitted commands lengths (length relation) (length room) pass
+
+    -- 5 to 9
+    pub reviewed-judged : (v : Verdict) → numbered v ≡ judged lengths (played commands lengths σ) → numbered v .number ≢ 0
+        → Reviewed commands lengths σ relation room (record { verdict = v; sheet = sheetOf [] }) relation room
+    unfolding verdictOf
+    reviewed-judged v e n =
+        unfilled v (e ∙ or-first (judged lengths (played commands lengths σ)) _ (λ z. n (ap (λ (t : Told). t .number) e ∙ z)) ∙ or-second refusal _ pass) n
+        (omega (arith, ap (λ (t : Told). t .number) e, judged-small (A .keeps) σ))
+
+    -- 0, 10 and 11
+    module _ (clean : judged lengths (played commands lengths σ) .number ≡ 0) (relation′ room′ : List ℕ)
+        (is-put : room′ ≡ put (played commands lengths σ .generations) (rows commands) room)
+        (is-reached : Reached commands lengths (at room′) relation relation′) where
+      T : Through (A .keeps) σ
+      T = clean-through (A .keeps) σ (clean-verdict lengths (played commands lengths σ) clean)
+
+      abbrev g : ℕ → ℕ
+      g = generations commands lengths σ
+
+      fits : rows commands ≤ length (played commands lengths σ .generations)
+      fits = omega (arith, A .keeps .few-rows, T .gens .long)
+
+      same : (c : ℕ) → c < rows commands → at room′ c ≡ g c
+      same c l = ap (λ (r : List ℕ). getD r c 0) is-put ∙ put-front (played commands lengths σ .generations) room (rows commands) fits c l
+
+      reached : Reached commands lengths g relation relation′
+      reached = same-reached commands lengths (at room′) g same relation relation′ is-reached
+
+      found : (f : Fault) → faults commands lengths (at room′) (related relation′ (rows commands)) f ≡ faults commands lengths g (reaches commands lengths σ) f
+      found = same-faults commands lengths (at room′) g _ _ same (related-reaches commands lengths g relation relation′ reached (A .relation-fits))
+
+      pub reviewed-filled : (r : Finding) → Looked commands lengths (at room′) (related relation′ (rows commands)) r → Reviewed commands lengths σ relation room r relation′ room′
+      unfolding verdictOf
+      reviewed-filled r L =
+          let e : numbered (r .verdict) ≡ faultTold commands lengths g (reaches commands lengths σ) = L .verdict ∙ rw (found Reuse, found Race) in
+          let q : numbered (r .verdict) ≡ verdicts = e ∙ or-second (judged lengths (played commands lengths σ)) _ clean ∙ or-second refusal _ pass in
+          let n : number r ≡ faultTold commands lengths g (reaches commands lengths σ) .number = ap (λ (t : Told). t .number) e in
+          let f : fills (number r) ≡ true = ap fills n ∙ fault-fills (faults commands lengths g (reaches commands lengths σ) Reuse) (faults commands lengths g (reaches commands lengths σ) Race) in
+          record {
+            demand₁ =
+                record {
+                  told = omega (arith, fault-small (faults commands lengths g (reaches commands lengths σ) Reuse) (faults commands lengths g (reaches commands lengths σ) Race));
+                  empty = λ z. clashing f z;
+                  relation-kept = λ z. clashing f z;
+                  room-kept = λ z. clashing f z;
+                  relation-beyond = is-reached .kept;
+                  room-beyond = λ p h. ap (λ (r : List ℕ). getD r p 0) is-put ∙ put-beyond (played commands lengths σ .generations) room (rows commands) fits p h;
+                };
+            demand₂ =
+                record { verdict = q; sheet = λ _. L .sheet ∙ rw (found Reuse, found Race); relation-holds = λ _. reached; room-holds = λ _. is-put };
+            demand₃ = third (r .verdict) q;
+          }

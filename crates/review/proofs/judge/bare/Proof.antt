@@ -1,0 +1,13 @@
+-- `bare` meets its contract: an empty sheet is that of no pairs. Assumes nothing.
+use mathlib.Core.Path.{ap}
+use borrow.Author.Needs.{needs}
+use Rattle.review.specs.declared.sheet.Sheet.{Sheet}
+use Rattle.review.specs.declared.judge.Finding.{Finding}
+use Rattle.review.proofs.judge.bare.Statement.{statement}
+use Rattle.review.proofs.judge.bare.Tie as tie
+
+returns : tie.Need-returns
+returns c = simp (c .empty .ensures)
+
+pub bare-spec : {M : Type 1} → statement M
+bare-spec = tie.close (tie.spec (λ c κs. search needs) returns)
