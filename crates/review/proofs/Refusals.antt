@@ -34,6 +34,10 @@ module _ (v : Verdict) {told : Told} (said : told ≡ numbered v) where
   pub said-second : (b : Told) → told .number ≡ 0 → b ≡ orElse (numbered v) b
   said-second b e = or-second (numbered v) b (sym number-is ∙ e)
 
+-- what v is the verdict of has number 0 where 0 was said
+pub said-zero : (v : Verdict) {told t : Told} → told ≡ numbered v → numbered v ≡ t → told .number ≡ 0 → t .number ≡ 0
+said-zero v said is e = ap (λ (t : Told). t .number) (sym is) ∙ sym (number-is v said) ∙ e
+
 -- the check of tables said v
 module _ (commands lengths : List ℕ) (v : Verdict) {told : Told} (check : numbered v ≡ checked commands lengths) (said : told ≡ numbered v) where
   pub passed : told .number ≡ 0 → Keeps commands lengths

@@ -32,9 +32,10 @@ use Rattle.review.specs.Ending.{lowestAllowed, lowestBlocked, lowestSet,
 use Rattle.review.specs.Order.{at, put, Reached}
 use Rattle.review.specs.Faults.{faults}
 use Rattle.review.specs.Sheet.{sheetOf}
-use Rattle.review.specs.Judge.{shortRooms, refused, judged, firstPair, faultTold, Looked, generations, reaches, verdictOf, fills}
+use Rattle.review.specs.Judge.{shortRooms, refused, judged, firstPair, faultTold, Looked, generations, reaches, verdictOf, fills, Plays}
 use Rattle.review.specs.Agreement.{number, Safe, Exact, Judges, Reviewed}
 use Rattle.review.proofs.Refusals.{or-first, or-second}
+use Rattle.review.proofs.Ties.{ends}
 use Rattle.review.proofs.Plays.{Ends, through, refused-at, mismatched-at, plays-all, Through, clean-through}
 use Rattle.review.proofs.Rooms.{put-front, put-beyond, same-reached, related-reaches}
 use Rattle.review.proofs.Pairs.{same-faults}
@@ -102,6 +103,10 @@ unfolding judged
 clean-verdict lengths r e =
     by-cases (ℕ-discrete (numbered (r .verdict) .number) 0) (λ (z : numbered (r .verdict) .number ≡ 0). zero-clean (r .verdict) z)
     (λ (n : numbered (r .verdict) .number ≢ 0). absurd (n (rw (ne-eqb _ _ n) at e)))
+
+-- a replay is ready to be judged
+pub judges-replay : {commands lengths : List ℕ} → Keeps commands lengths → (σ : List ℕ) {r : Replayed} → r ≡ played commands lengths σ → Plays lengths r
+judges-replay K σ e = rw e (record { ends = λ c. ends K (clean-through K σ c .stands) })
 
 -- ---- which verdicts fill the rooms
 
@@ -176,8 +181,11 @@ module _ (commands lengths σ relation room : List ℕ) where
 
     -- 0, 10 and 11
     module _ (clean : judged lengths (played commands lengths σ) .number ≡ 0) (relation′ room′ : List ℕ)
-        (is-put : room′ ≡ put (played commands lengths σ .generations) (rows commands) room)
+        {q : Replayed} (replay : q ≡ played commands lengths σ) (given : room′ ≡ put (q .generations) (rows commands) room)
         (is-reached : Reached commands lengths (at room′) relation relation′) where
+      is-put : room′ ≡ put (played commands lengths σ .generations) (rows commands) room
+      is-put = given ∙ ap (λ (q : Replayed). put (q .generations) (rows commands) room) replay
+
       T : Through (A .keeps) σ
       T = clean-through (A .keeps) σ (clean-verdict lengths (played commands lengths σ) clean)
 

@@ -1,68 +1,96 @@
+-- `review` meets its contract: refused and judged before a room is touched, or filled. Assumes nothing.
+use mathlib.Core.Path.{_≡_, sym, ap, _∙_}
+use native.Mathlib.Omega.{arith}
 use borrow.Author.Needs.{needs}
+use Rattle.tables.specs.Limits.{mostRows}
+use Rattle.review.specs.Judge.{judged}
+use Rattle.review.proofs.Refusals.{number-is, said-zero}
+use Rattle.review.proofs.Reviews.{Admitted, admitted, judges-replay, reviewed-refused, reviewed-judged, reviewed-filled}
 use Rattle.review.proofs.judge.review.Statement.{statement}
 use Rattle.review.proofs.judge.review.Tie as tie
 
-refuse-requires : tie.Need-refuse-requires
-refuse-requires c κs = search needs
-
-number-requires : tie.Need-number-requires
-number-requires c κs = search needs
-
-bare-requires : tie.Need-bare-requires
-bare-requires c κs = search needs
-
 returns : tie.Need-returns
-returns c = search needs
+returns c =
+    let n = c .before .before .before in
+    let k = n .before .refuse in
+    rw (c .bare .ensures) (reviewed-refused _ _ _ _ _ (k .result) (k .ensures) (λ e. c .before .if1 .taken (number-is (k .result) (n .number .ensures) ∙ e)))
 
 replay-requires : tie.Need-replay-requires
-replay-requires c κs = search needs
+replay-requires c κs =
+    let n = c .before .before in
+    let k = n .before .refuse in
+    admitted _ _ _ _ (said-zero (k .result) (n .number .ensures) (k .ensures) (c .if1 .left)) .keeps
 
 judge-requires : tie.Need-judge-requires
-judge-requires c κs = search needs
-
-number-requires-2 : tie.Need-number-requires-2
-number-requires-2 c κs = search needs
-
-bare-requires-2 : tie.Need-bare-requires-2
-bare-requires-2 c κs = search needs
+judge-requires c κs =
+    let n = c .before .before .before in
+    let k = n .before .refuse in
+    judges-replay (admitted _ _ _ _ (said-zero (k .result) (n .number .ensures) (k .ensures) (c .before .if1 .left)) .keeps) _ (c .replay .ensures)
 
 returns-2 : tie.Need-returns-2
-returns-2 c = search needs
+returns-2 c =
+    let m = c .before .before .before in
+    let j = m .before .judge in
+    let p = m .before .before in
+    let n = p .before .before .before in
+    let k = n .before .refuse in
+    rw (c .bare2 .ensures)
+    (reviewed-judged _ _ _ _ _ (said-zero (k .result) (n .number .ensures) (k .ensures) (p .before .if1 .left)) (j .result)
+    (j .ensures ∙ ap (judged _) (p .replay .ensures)) (λ e. c .before .if2 .taken (number-is (j .result) (m .number2 .ensures) ∙ e)))
 
 put-generations-requires : tie.Need-put-generations-requires
-put-generations-requires c κs = search needs
+put-generations-requires c κs =
+    let p = c .before .before .before .before .before .before in
+    let n = p .before .before .before in
+    let k = n .before .refuse in
+    let A = admitted _ _ _ _ (said-zero (k .result) (n .number .ensures) (k .ensures) (p .before .if1 .left)) in
+    (A .generations-fit, A .keeps .few-rows)
 
 put-order-requires : tie.Need-put-order-requires
-put-order-requires c κs = search needs
+put-order-requires c κs =
+    let p = c .before .before .before .before .before .before .before .before .before .before .before in
+    let n = p .before .before .before in
+    let k = n .before .refuse in
+    let A = admitted _ _ _ _ (said-zero (k .result) (n .number .ensures) (k .ensures) (p .before .if1 .left)) in
+    record { keeps = A .keeps; generations-fit = omega (arith, A .generations-fit); relation-fits = A .relation-fits }
 
 look-requires : tie.Need-look-requires
-look-requires c κs = search needs
-
-same-length : tie.Need-same-length
-same-length c = search needs
-
-same-length-2 : tie.Need-same-length-2
-same-length-2 c = search needs
+look-requires c κs =
+    let p = c .before .before .before .before .before .before .before .before .before .before .before .before .before .before .before .before in
+    let n = p .before .before .before in
+    let k = n .before .refuse in
+    let A = admitted _ _ _ _ (said-zero (k .result) (n .number .ensures) (k .ensures) (p .before .if1 .left)) in
+    (A .keeps, omega (arith, A .generations-fit, c .before .before .before .before .before .before .before .before .before .put-generations .kept .0))
 
 returns-3 : tie.Need-returns-3
-returns-3 c = search needs
+returns-3 c =
+    let o = c .before .before .before .before .before in
+    let g = o .before .before .before .before .before in
+    let m = g .before .before .before .before .before in
+    let j = m .before .judge in
+    let p = m .before .before in
+    let n = p .before .before .before in
+    let k = n .before .refuse in
+    reviewed-filled _ _ _ _ _ (said-zero (k .result) (n .number .ensures) (k .ensures) (p .before .if1 .left))
+    (said-zero (j .result) (m .number2 .ensures) (j .ensures ∙ ap (judged _) (p .replay .ensures)) (g .before .before .before .if2 .left))
+    _ _ (p .replay .ensures) (g .put-generations .ensures) (o .put-order .ensures) _ (c .look .ensures)
 
 pub review-spec : {M : Type 1} → statement M
 review-spec =
     tie.close
     (tie.spec
-    refuse-requires
-    number-requires
-    bare-requires
+    (λ c κs. search needs)
+    (λ c κs. search needs)
+    (λ c κs. search needs)
     returns
     replay-requires
     judge-requires
-    number-requires-2
-    bare-requires-2
+    (λ c κs. search needs)
+    (λ c κs. search needs)
     returns-2
     put-generations-requires
     put-order-requires
     look-requires
-    same-length
-    same-length-2
+    (λ c. search needs)
+    (λ c. search needs)
     returns-3)
