@@ -5,7 +5,7 @@
 -- Whole schedules: Plays (a replay), Schedules (legal, complete and clean are the same for both), Writing (the schedule writer), Precede (what stands
 -- before what), Agreements.
 -- Verdicts, rooms, faults and demand 3: Refusals, Rooms (what goes into the two rooms), Sheets, Looks (what a search tells), Pairs (which pairs, in what order), Conflicts, Judging,
--- Reviews (the contract).
+-- Reviews (the contract), Unique (it has one answer).
 -- By itself: Examples (document 01's starred ones).
 pub mod Fronts
 pub mod Scans
@@ -33,4 +33,5 @@ pub mod Pairs
 pub mod Conflicts
 pub mod Judging
 pub mod Reviews
+pub mod Unique
 pub mod Examples

@@ -1,4 +1,4 @@
--- What a review promises: the user's three demands.
+-- What a review promises: the user's three demands; and what the schedule writer promises.
 use mathlib.Core.Path.{_≡_}
 use mathlib.Core.Bool.{Bool, true, false}
 use mathlib.Core.List.{List, []}
@@ -8,8 +8,10 @@ use lib.ListN.{length, getD}
 use Rattle.tables.specs.Rows.{rows}
 use Rattle.tables.specs.Verdicts.{tell, numbered}
 use Rattle.relation.specs.Table.{words}
+use Rattle.review.specs.declared.writer.Written.{Written}
 use Rattle.review.specs.declared.judge.Finding.{Finding}
 use Rattle.review.specs.Replay.{played}
+use Rattle.review.specs.Writer.{schedule, unwritten, Filled}
 use Rattle.review.specs.Order.{put, Reached}
 use Rattle.review.specs.Sheet.{sheetOf}
 use Rattle.review.specs.Judge.{refused, verdictOf, faultPairs, generations, reaches, fills}
@@ -52,3 +54,10 @@ pub record Reviewed (commands lengths schedule relation room : List ℕ) (r : Fi
   pub demand₁ : Safe commands relation room r relation′ room′
   pub demand₂ : Exact commands lengths schedule relation room r relation′ room′
   pub demand₃ : refused commands lengths (length relation) (length room) ≡ tell 0 0 0 → Judges commands lengths schedule (number r)
+
+-- The contract of `write_schedule`: 1 to 4 and the room as it was, or the schedule, which is legal and complete, and its length.
+pub record Writes (commands lengths before after : List ℕ) (r : Written) : Type 0 where
+  pub verdict : numbered (r .verdict) ≡ unwritten commands lengths (length before)
+  pub refused : (numbered (r .verdict) .number ≡ 0 → ⊥) → (r .length ≡ 0) × (after ≡ before)
+  pub wrote : numbered (r .verdict) .number ≡ 0 → Filled commands lengths before after (r .length)
+  pub complete : numbered (r .verdict) .number ≡ 0 → Complete commands lengths (schedule commands lengths)

@@ -7,13 +7,12 @@ use lib.Dec.{ltb}
 use lib.ListN.{length, drop}
 use Rattle.tables.specs.Rows.{rows}
 use Rattle.tables.specs.Rules.{Keeps, checked}
-use Rattle.tables.specs.Verdicts.{tell, numbered}
+use Rattle.tables.specs.Verdicts.{tell}
 use Rattle.tables.specs.declared.verdict.Told.{Told}
 use Rattle.review.specs.declared.state.Replay.{Replay}
 use Rattle.review.specs.declared.step.How.the-variants.{Mismatch, Ran}
 use Rattle.review.specs.declared.step.Did.{Did}
 use Rattle.review.specs.declared.step.Did.the-variants.{NotAllowed, Took}
-use Rattle.review.specs.declared.writer.Written.{Written}
 use Rattle.review.specs.State.{start}
 use Rattle.review.specs.Step.{stepped}
 use Rattle.review.specs.Ending.{lowestAllowed}
@@ -51,12 +50,6 @@ unwritten commands lengths room = orElse (checked commands lengths) (shortRoom (
 pub record Filled (commands lengths before after : List ℕ) (n : ℕ) : Type 0 where
   pub long : n ≡ length (schedule commands lengths)
   pub room : after ≡ schedule commands lengths ++ drop n before
-
--- What the writer answers: 1 to 4 and the room as it was, or the schedule and its length.
-pub record Writes (commands lengths before after : List ℕ) (r : Written) : Type 0 where
-  pub verdict : numbered (r .verdict) ≡ unwritten commands lengths (length before)
-  pub refused : (numbered (r .verdict) .number ≡ 0 → ⊥) → (r .length ≡ 0) × (after ≡ before)
-  pub wrote : numbered (r .verdict) .number ≡ 0 → Filled commands lengths before after (r .length)
 
 -- what writing asks for
 pub record Fits (commands lengths room : List ℕ) : Type 0 where

@@ -1,6 +1,7 @@
 // The schedule writer: always the lowest allowed thread steps.
 ghost use mathlib.Core.Path.{_≡_};
-ghost use Rattle.review.specs.Writer.{goesOn, Fits, Filled, Writes};
+ghost use Rattle.review.specs.Writer.{goesOn, Fits, Filled};
+ghost use Rattle.review.specs.Agreement.{Writes};
 use crate::state::Replay;
 use crate::step::Did;
 use crate::step::How;

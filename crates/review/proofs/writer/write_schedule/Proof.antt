@@ -2,6 +2,7 @@
 use mathlib.Core.Path.{refl, _∙_}
 use borrow.Author.Needs.{needs}
 use Rattle.review.proofs.Refusals.{number-is, passed, unwritten-tables, unwritten-room, unwritten-none}
+use Rattle.review.proofs.Writing.{schedule-complete}
 use Rattle.review.proofs.writer.write_schedule.Statement.{statement}
 use Rattle.review.proofs.writer.write_schedule.Tie as tie
 
@@ -13,6 +14,7 @@ returns c =
       verdict = unwritten-tables _ _ (k .result) (k .ensures) (n .number .ensures) _ (c .if1 .taken);
       refused = λ _. (refl, refl);
       wrote = λ e. absurd (c .if1 .taken (number-is (k .result) (n .number .ensures) ∙ e));
+      complete = λ e. absurd (c .if1 .taken (number-is (k .result) (n .number .ensures) ∙ e));
     }
 
 returns-2 : tie.Need-returns-2
@@ -23,6 +25,7 @@ returns-2 c =
       verdict = unwritten-room _ _ (k .result) (k .ensures) (n .number .ensures) _ (c .before .if1 .left) (c .if2 .taken);
       refused = λ _. (refl, refl);
       wrote = λ e. absurd (search needs);
+      complete = λ e. absurd (search needs);
     }
 
 write-requires : tie.Need-write-requires
@@ -40,6 +43,7 @@ returns-3 c =
       verdict = unwritten-none _ _ (k .result) (k .ensures) (n .number .ensures) _ (w .before .before .before .if1 .left) (search needs);
       refused = λ h. absurd (h refl);
       wrote = λ _. w .write .ensures;
+      complete = λ _. schedule-complete (passed _ _ (k .result) (k .ensures) (n .number .ensures) (w .before .before .before .if1 .left));
     }
 
 pub write-schedule-spec : {M : Type 1} → statement M

@@ -1,0 +1,67 @@
+-- Any two answers that meet a contract are equal: verdict, sheet and both rooms of a review; verdict, length and room of the writer. Assumes nothing.
+use mathlib.Core.Path.{_≡_, refl, sym, ap, ap₂, _∙_}
+use mathlib.Core.Logic.{⊎-elim, by-cases, _≢_}
+use mathlib.Core.Bool.{true, false}
+use mathlib.Core.List.{List, _++_}
+use Prim.Native.Nat.{ℕ}
+use native.Mathlib.Decide.{ℕ-discrete}
+use lib.ListN.{drop}
+use Rattle.tables.specs.Verdicts.{numbered}
+use Rattle.tables.specs.declared.verdict.Told.{Told}
+use Rattle.tables.specs.declared.verdict.Verdict.{Verdict}
+use Rattle.tables.proofs.Verdicts.{numbered-one}
+use Rattle.relation.proofs.Truth.{split}
+use Rattle.relation.proofs.Rooms.{Words, holds-one}
+use Rattle.review.specs.declared.sheet.Sheet.{Sheet}
+use Rattle.review.specs.declared.judge.Finding.{Finding}
+use Rattle.review.specs.declared.writer.Written.{Written}
+use Rattle.review.specs.Judge.{fills}
+use Rattle.review.specs.Agreement.{number, Reviewed, Writes}
+use Rattle.review.specs.Writer.{schedule}
+
+module _ (commands lengths σ relation room : List ℕ) (a b : Finding) {ra ga rb gb : List ℕ} (wa : Words ra) (wb : Words rb)
+    (A : Reviewed commands lengths σ relation room a ra ga) (B : Reviewed commands lengths σ relation room b rb gb) where
+  same-verdict : a .verdict ≡ b .verdict
+  same-verdict = numbered-one _ _ (A .demand₂ .verdict ∙ sym (B .demand₂ .verdict))
+
+  same-number : number a ≡ number b
+  same-number = ap (λ (v : Verdict). numbered v .number) same-verdict
+
+  -- words of 32 bits stand in the relation rooms
+  pub review-one : (a ≡ b) × (ra ≡ rb) × (ga ≡ gb)
+  review-one =
+      ⊎-elim
+      (λ (t : fills (number a) ≡ true).
+      let u : fills (number b) ≡ true = ap fills (sym same-number) ∙ t in (
+        ap₂ (λ (v : Verdict) (s : Sheet). record { verdict = v; sheet = s }) same-verdict (A .demand₂ .sheet t ∙ sym (B .demand₂ .sheet u)),
+        holds-one _ _ _ _ _ wa wb (A .demand₂ .relation-holds t) (B .demand₂ .relation-holds u),
+        A .demand₂ .room-holds t ∙ sym (B .demand₂ .room-holds u)
+      ))
+      (λ (t : fills (number a) ≡ false).
+      let u : fills (number b) ≡ false = ap fills (sym same-number) ∙ t in (
+        ap₂ (λ (v : Verdict) (s : Sheet). record { verdict = v; sheet = s }) same-verdict (A .demand₁ .empty t ∙ sym (B .demand₁ .empty u)),
+        A .demand₁ .relation-kept t ∙ sym (B .demand₁ .relation-kept u),
+        A .demand₁ .room-kept t ∙ sym (B .demand₁ .room-kept u)
+      ))
+      (split (fills (number a)))
+
+module _ (commands lengths room : List ℕ) (a b : Written) {ra rb : List ℕ} (A : Writes commands lengths room ra a) (B : Writes commands lengths room rb b) where
+  one-verdict : a .verdict ≡ b .verdict
+  one-verdict = numbered-one _ _ (A .verdict ∙ sym (B .verdict))
+
+  pub write-one : (a ≡ b) × (ra ≡ rb)
+  write-one =
+      by-cases (ℕ-discrete (numbered (a .verdict) .number) 0)
+      (λ (e : numbered (a .verdict) .number ≡ 0).
+      let x = A .wrote e in
+      let y = B .wrote (ap (λ (v : Verdict). numbered v .number) (sym one-verdict) ∙ e) in
+      let n : a .length ≡ b .length = x .long ∙ sym (y .long) in (
+        ap₂ (λ (v : Verdict) (n : ℕ). record { verdict = v; length = n }) one-verdict n,
+        x .room ∙ ap (λ (n : ℕ). schedule commands lengths ++ drop n room) n ∙ sym (y .room)
+      ))
+      (λ (f : numbered (a .verdict) .number ≢ 0).
+      let x = A .refused f in
+      let y = B .refused (λ e. f (ap (λ (v : Verdict). numbered v .number) one-verdict ∙ e)) in (
+        ap₂ (λ (v : Verdict) (n : ℕ). record { verdict = v; length = n }) one-verdict (x .0 ∙ sym (y .0)),
+        x .1 ∙ sym (y .1)
+      ))
