@@ -1,7 +1,7 @@
 -- Agreement and order, between the schedules of the replay and those of `schedules`. Assumes nothing.
-use mathlib.Core.Path.{_≡_, refl, sym, ap, _∙_, subst}
-use mathlib.Core.Logic.{_⊎_, inl, inr, _↔_, _≢_}
-use mathlib.Core.Bool.{true, false}
+use mathlib.Core.Path.{_≡_, sym, ap, _∙_, subst}
+use mathlib.Core.Logic.{_↔_}
+use mathlib.Core.Bool.{false}
 use mathlib.Core.List.{List, reverse, reverse-reverse}
 use Prim.Native.Nat.{ℕ, zero, suc, _+_, _<_}
 use native.Mathlib.Omega.{arith}
@@ -12,8 +12,9 @@ use Rattle.relation.proofs.Chains.{reach-map}
 use Rattle.relation.proofs.Truth.{isnt}
 use Rattle.schedules.specs.Machine.{Program}
 use Rattle.schedules.specs.Threads as threads
-use Rattle.schedules.specs.Order.{Edge, along, meets, Reaches, Succeeds, Waits, Reuse}
+use Rattle.schedules.specs.Order.{along, Reaches, Succeeds, Waits, Reuse}
 use Rattle.schedules.specs.Claims as claims
+use Rattle.schedules.proofs.Table.{edge-alike}
 use Rattle.review.specs.Order.{program}
 use Rattle.review.specs.Schedules.{Complete, Clean, Agree, Precedes, InOneOrder, Disagree, unclean, unlike}
 use Rattle.review.proofs.Programs as programs
@@ -24,12 +25,8 @@ use Rattle.review.proofs.Precede.{precedes-to, precedes-from}
 -- ---- what reaches what hangs on the generations of the program's commands alone
 
 module _ (P : Program) {g g′ : ℕ → ℕ} (same : (c : ℕ) → c < P .size → g c ≡ g′ c) where
-  edge-same : {x y : ℕ} → Edge P g x y → Edge P g′ x y
-  edge-same (along l e f) = along l e f
-  edge-same (meets lx ly r s b e) = meets lx ly r s b (sym (same _ lx) ∙ e ∙ same _ ly)
-
   pub reaches-same : {x y : ℕ} → Reaches P g x y → Reaches P g′ x y
-  reaches-same = reach-map (λ x y. edge-same)
+  reaches-same = reach-map (edge-alike same)
 
   succeeds-same : {c₁ c₂ : ℕ} → Succeeds P g c₁ c₂ → Succeeds P g′ c₁ c₂
   succeeds-same s =

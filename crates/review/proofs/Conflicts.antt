@@ -1,5 +1,5 @@
 -- Two accesses that conflict: they are accesses, they conflict the other way round, and one of them reaches the other or they race. Assumes nothing.
-use mathlib.Core.Path.{_≡_, refl, sym, ap, _∙_, subst}
+use mathlib.Core.Path.{_≡_, sym, ap, _∙_, subst}
 use mathlib.Core.Logic.{_⊎_, inl, inr, ⊎-elim, by-cases, _≢_}
 use mathlib.Core.Bool.{Bool, true, false, _&&_, _||_}
 use mathlib.Core.List.{List, []}
@@ -16,7 +16,7 @@ use Rattle.schedules.proofs.Theorems.{decides}
 use Rattle.review.specs.declared.faults.Fault.the-variants as fault
 use Rattle.review.specs.Step.{registers}
 use Rattle.review.specs.Order.{program}
-use Rattle.review.specs.Faults.{conflict, race, faults}
+use Rattle.review.specs.Faults.{conflict, faults}
 use Rattle.review.proofs.Agreements.{reaches-on}
 use Rattle.review.proofs.Pairs.{race-is, no-faults}
 

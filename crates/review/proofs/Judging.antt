@@ -3,26 +3,25 @@ use mathlib.Core.Path.{_≡_, refl, sym, ap, _∙_, subst}
 use mathlib.Core.Logic.{_⊎_, inl, inr, ⊎-elim, by-cases, _↔_, _≢_}
 use mathlib.Core.Bool.{Bool, true, false, cond}
 use mathlib.Core.List.{List, [], _∷_, reverse, reverse-reverse}
-use Prim.Native.Nat.{ℕ, suc, _+_, _-_, _≤_, _<_}
+use Prim.Native.Nat.{ℕ, _-_, _≤_, _<_}
 use native.Mathlib.Omega.{arith}
-use native.Mathlib.Decide.{decLt, ℕ-discrete}
-use lib.Dec.{eqb, ltb}
+use native.Mathlib.Decide.{decLt}
+use lib.Dec.{ltb}
 use lib.ListN.{length}
-use borrow.Author.Tests.{lt-ltb, le-ltb, ltb-true, ltb-false, eqb-true, eqb-false}
+use borrow.Author.Tests.{le-ltb}
 use Rattle.tables.specs.Limits.{barriers}
-use Rattle.tables.specs.Lowest.{lowest}
-use Rattle.tables.specs.Rows.{rows, threadOf}
+use Rattle.tables.specs.Rows.{rows}
 use Rattle.tables.specs.Rules.{Keeps}
 use Rattle.tables.specs.Verdicts.{tell, numbered}
 use Rattle.tables.specs.declared.verdict.Told.{Told}
 use Rattle.tables.specs.declared.verdict.Verdict.{Verdict}
 use Rattle.tables.specs.declared.verdict.Verdict.the-variants as verdict
 use Rattle.tables.proofs.Lowest.{lowest-hit, lowest-miss}
-use Rattle.relation.proofs.Truth.{split, clashing, isnt, both}
+use Rattle.relation.proofs.Truth.{clashing}
 use Rattle.schedules.specs.Machine as machine
 use Rattle.schedules.specs.Machine.{Program}
 use Rattle.schedules.specs.Threads as threads
-use Rattle.schedules.specs.Order.{Reaches, Reuse, NoReuse, reach}
+use Rattle.schedules.specs.Order.{Reaches, Reuse, reach}
 use Rattle.schedules.specs.Claims as claims
 use Rattle.schedules.proofs.Tests.{not-matching}
 use Rattle.schedules.proofs.Theorems.{agreement, one-order, real, decided}
@@ -33,7 +32,7 @@ use Rattle.review.specs.declared.faults.Fault.the-variants as fault
 use Rattle.review.specs.Step.{allowed}
 use Rattle.review.specs.Ending.{isBlocked, barrierSet, lowestAllowed, lowestBlocked, lowestSet, lastRun, ended}
 use Rattle.review.specs.InOrder.{orElse}
-use Rattle.review.specs.Replay.{played, generation}
+use Rattle.review.specs.Replay.{played}
 use Rattle.review.specs.Order.{program}
 use Rattle.review.specs.Faults.{conflict, race, faults}
 use Rattle.review.specs.Judge.{judged, firstPair, faultTold, generations, reaches}
@@ -43,7 +42,7 @@ use Rattle.review.specs.Agreement.{Judges}
 use Rattle.review.proofs.Programs as programs
 use Rattle.review.proofs.Plays.{Ends, through, refused-at, mismatched-at, Through, plays-all, clean-through, legal-through}
 use Rattle.review.proofs.Schedules.{unlike, complete-from, clean-to, generation-is}
-use Rattle.review.proofs.Agreements.{reuse-same, reaches-same, reaches-on, agree-to, agree-from, disagreed, order-to, order-from}
+use Rattle.review.proofs.Agreements.{reuse-same, reaches-same, agree-from, disagreed, order-to, order-from}
 use Rattle.review.proofs.Pairs.{reuse-is, race-is, no-faults, some-fault}
 use Rattle.review.proofs.Conflicts.{accesses, reaches-either}
 

@@ -1,19 +1,16 @@
 -- A replay follows a legal schedule as far as it goes: its state stands for the machine's, and its generations are the machine's. Assumes nothing.
 use mathlib.Core.Path.{_≡_, refl, sym, ap, _∙_, subst}
 use mathlib.Core.Logic.{by-cases, ⊎-elim, _≢_}
-use mathlib.Core.Bool.{true, false}
 use mathlib.Core.List.{List, [], _∷_, _++_, reverse, reverseAux, reverseAux-append}
-use Prim.Native.Nat.{ℕ, zero, suc, _+_, _<_, _≤_}
+use Prim.Native.Nat.{ℕ, _+_, _<_}
 use native.Mathlib.Omega.{arith}
 use native.Mathlib.Decide.{ℕ-discrete}
-use native.Mathlib.Numerals.{add-one}
 use lib.ListN.{length, getD, set, replicate, length-set, length-replicate, getD-replicate}
 use lib.Seq.{getD-set-same, getD-set-other}
 use Rattle.tables.specs.Limits.{mostRows}
 use Rattle.tables.specs.Rows.{rows}
 use Rattle.tables.specs.Rules.{Keeps}
 use Rattle.tables.specs.Verdicts.{numbered}
-use Rattle.tables.specs.declared.verdict.Told.{Told}
 use Rattle.tables.specs.declared.verdict.Verdict.{Verdict}
 use Rattle.tables.specs.declared.verdict.Verdict.the-variants as verdict
 use Rattle.relation.proofs.Truth.{split, clashing}
@@ -23,14 +20,12 @@ use Rattle.schedules.specs.Threads.{Threads, at, after, gens, commands, Legal, 
 use Rattle.schedules.proofs.Step.{gen-other}
 use Rattle.schedules.proofs.Tests.{not-matching}
 use Rattle.review.specs.declared.state.Replay.{Replay}
-use Rattle.review.specs.declared.step.How.the-variants.{Mismatch, Ran}
-use Rattle.review.specs.declared.step.Did.{Did}
-use Rattle.review.specs.declared.step.Did.the-variants.{NotAllowed, Took}
-use Rattle.review.specs.declared.step.Stepped.{Stepped}
+use Rattle.review.specs.declared.step.How.the-variants.{Mismatch}
+use Rattle.review.specs.declared.step.Did.the-variants.{NotAllowed}
 use Rattle.review.specs.declared.replay.Replayed.{Replayed}
 use Rattle.review.specs.State.{start}
 use Rattle.review.specs.Step.{allowed, stepped}
-use Rattle.review.specs.Replay.{ends, goingOn, playing, played, generation}
+use Rattle.review.specs.Replay.{playing, played}
 use Rattle.review.specs.Order.{program}
 use Rattle.review.proofs.Programs.{threads}
 use Rattle.review.proofs.Ties.{Stands, stands-start, allowed-steps, steps-allowed, command-row}

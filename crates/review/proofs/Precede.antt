@@ -1,7 +1,5 @@
 -- What stands before what in a schedule that goes through is what runs before what in its log. Assumes nothing.
 use mathlib.Core.Path.{_≡_, refl, sym, ap, _∙_, subst}
-use mathlib.Core.Logic.{_↔_}
-use mathlib.Core.Bool.{true, false}
 use mathlib.Core.List.{List, [], _∷_, _++_, reverse, reverseAux, reverseAux-eq, reverseAux-append, reverseAux-reverseAux-nil, reverse-reverse, tail}
 use Prim.Native.Nat.{ℕ, _<_}
 use native.Mathlib.Omega.{arith}
@@ -11,13 +9,12 @@ use Rattle.tables.specs.Rows.{rows}
 use Rattle.tables.specs.Rules.{Keeps}
 use Rattle.schedules.specs.Machine as machine
 use Rattle.schedules.specs.Machine.{Program}
-use Rattle.schedules.specs.Threads.{Threads, at, commands, after, Legal}
+use Rattle.schedules.specs.Threads.{Threads, commands, Legal}
 use Rattle.schedules.specs.Order.{Goes, stays, more, Before}
 use Rattle.schedules.proofs.Along.{first-more}
 use Rattle.schedules.proofs.Threads.{goes-commands}
-use Rattle.review.specs.Replay.{played}
 use Rattle.review.specs.Order.{program}
-use Rattle.review.specs.Schedules.{hasRun, stateAfter, Precedes}
+use Rattle.review.specs.Schedules.{Precedes}
 use Rattle.review.proofs.Programs.{threads}
 use Rattle.review.proofs.Ties.{has-run}
 use Rattle.review.proofs.Plays.{Through, legal-part, legal-through}

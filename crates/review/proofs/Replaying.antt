@@ -1,5 +1,5 @@
 -- The loop over the entries of a schedule: what is left to play from the state that it has come to is what the whole comes to. Assumes nothing.
-use mathlib.Core.Path.{_≡_, refl, sym, ap, ap₂, _∙_}
+use mathlib.Core.Path.{_≡_, refl, sym, ap, _∙_}
 use mathlib.Core.List.{List, [], _∷_}
 use Prim.Native.Nat.{ℕ, zero, suc, _+_, _≤_, _<_}
 use native.Mathlib.Omega.{arith}
@@ -16,7 +16,6 @@ use Rattle.review.specs.declared.step.How.the-variants.{Mismatch, Ran}
 use Rattle.review.specs.declared.step.Did.{Did}
 use Rattle.review.specs.declared.step.Did.the-variants.{NotAllowed, Took}
 use Rattle.review.specs.declared.step.Stepped.{Stepped}
-use Rattle.review.specs.declared.replay.Replayed.{Replayed}
 use Rattle.review.specs.State.{start}
 use Rattle.review.specs.Step.{stepped}
 use Rattle.review.specs.Replay.{ends, goingOn, playing, played}

@@ -1,15 +1,15 @@
 -- The contract of `review` from what its parts found: refused, judged, or filled. Assumes nothing.
 use mathlib.Core.Path.{_≡_, refl, sym, ap, _∙_, subst}
-use mathlib.Core.Logic.{_⊎_, inl, inr, by-cases, _≢_}
+use mathlib.Core.Logic.{by-cases, _≢_}
 use mathlib.Core.Bool.{Bool, true, false, cond}
-use mathlib.Core.List.{List, [], _∷_, _++_}
+use mathlib.Core.List.{List, [], _∷_}
 use Prim.Native.Nat.{ℕ, _≤_, _<_}
 use native.Mathlib.Omega.{arith}
-use native.Mathlib.Decide.{decLt, ℕ-discrete}
-use lib.Dec.{eqb, ltb}
-use lib.ListN.{length, getD, take, drop}
-use borrow.Author.Tests.{eq-eqb, ne-eqb, lt-ltb, ltb-false}
-use Rattle.tables.specs.Limits.{mostRows, barriers}
+use native.Mathlib.Decide.{ℕ-discrete}
+use lib.Dec.{ltb}
+use lib.ListN.{length, getD}
+use borrow.Author.Tests.{eq-eqb, ne-eqb, ltb-false}
+use Rattle.tables.specs.Limits.{barriers}
 use Rattle.tables.specs.Rows.{rows}
 use Rattle.tables.specs.Rules.{Keeps, checked}
 use Rattle.tables.specs.Verdicts.{tell, numbered}
@@ -19,21 +19,20 @@ use Rattle.tables.specs.declared.verdict.Verdict.the-variants as verdict
 use Rattle.tables.proofs.Rules.{passes-zero, checked-small}
 use Rattle.tables.proofs.Verdicts.{zero-clean}
 use Rattle.relation.specs.Table.{words, related}
-use Rattle.relation.proofs.Truth.{split, clashing}
+use Rattle.relation.proofs.Truth.{clashing}
 use Rattle.review.specs.declared.sheet.Pair.{Pair}
 use Rattle.review.specs.declared.state.Replay.{Replay}
 use Rattle.review.specs.declared.replay.Replayed.{Replayed}
 use Rattle.review.specs.declared.faults.Fault.{Fault}
 use Rattle.review.specs.declared.faults.Fault.the-variants.{Reuse, Race}
 use Rattle.review.specs.declared.judge.Finding.{Finding}
-use Rattle.review.specs.InOrder.{orElse}
 use Rattle.review.specs.Replay.{played}
 use Rattle.review.specs.Ending.{lowestAllowed, lowestBlocked, lowestSet, ended}
 use Rattle.review.specs.Order.{at, put, Reached}
 use Rattle.review.specs.Faults.{faults}
 use Rattle.review.specs.Sheet.{sheetOf}
 use Rattle.review.specs.Judge.{shortRooms, refused, judged, firstPair, faultTold, Looked, generations, reaches, verdictOf, fills, Plays}
-use Rattle.review.specs.Agreement.{number, Safe, Exact, Judges, Reviewed}
+use Rattle.review.specs.Agreement.{number, Judges, Reviewed}
 use Rattle.review.proofs.Refusals.{or-first, or-second}
 use Rattle.review.proofs.Ties.{ends}
 use Rattle.review.proofs.Plays.{Ends, through, refused-at, mismatched-at, plays-all, Through, clean-through}

@@ -1,9 +1,8 @@
 -- The schedules that the replay lets through are those of `schedules`: legal and complete is the same, and clean, and the generations. Assumes nothing.
 use mathlib.Core.Path.{_≡_, refl, sym, ap, _∙_, subst}
-use mathlib.Core.Logic.{by-cases, _≢_, _↔_}
-use mathlib.Core.Bool.{true, false}
+use mathlib.Core.Logic.{by-cases, _≢_}
 use mathlib.Core.List.{List, [], _∷_, _++_, reverse, reverse-cons, reverse-append, reverse-reverse}
-use Prim.Native.Nat.{ℕ, suc, _+_, _<_, _≤_}
+use Prim.Native.Nat.{ℕ, _+_, _<_}
 use native.Mathlib.Omega.{arith}
 use native.Mathlib.Decide.{decLt}
 use lib.ListN.{length, length-append}
@@ -11,10 +10,9 @@ use Rattle.tables.specs.Limits.{barriers}
 use Rattle.tables.specs.Rows.{rows}
 use Rattle.tables.specs.Rules.{Keeps}
 use Rattle.tables.specs.Verdicts.{numbered}
-use Rattle.tables.specs.declared.verdict.Told.{Told}
 use Rattle.tables.specs.declared.verdict.Verdict.{Verdict}
 use Rattle.tables.specs.declared.verdict.Verdict.the-variants as verdict
-use Rattle.relation.proofs.Truth.{split, clashing, isnt}
+use Rattle.relation.proofs.Truth.{clashing, isnt}
 use Rattle.schedules.specs.Machine as machine
 use Rattle.schedules.specs.Threads as threads
 use Rattle.schedules.proofs.Tests.{not-matching}
@@ -22,16 +20,15 @@ use Rattle.review.specs.declared.state.Replay.{Replay}
 use Rattle.review.specs.declared.step.How.the-variants.{Mismatch, Ran}
 use Rattle.review.specs.declared.step.Did.{Did}
 use Rattle.review.specs.declared.step.Did.the-variants.{NotAllowed, Took}
-use Rattle.review.specs.declared.step.Stepped.{Stepped}
 use Rattle.review.specs.declared.replay.Replayed.{Replayed}
 use Rattle.review.specs.Step.{stepped}
 use Rattle.review.specs.Replay.{goingOn, playing, played, generation}
 use Rattle.review.specs.Order.{program}
-use Rattle.review.specs.Schedules.{Stops, Complete, stopped, mismatched, Clean, Alike}
+use Rattle.review.specs.Schedules.{Stops, Complete, stopped, mismatched, Clean}
 use Rattle.review.proofs.Programs as programs
 use Rattle.review.proofs.Tied as tied
-use Rattle.review.proofs.Ties.{Stands, allowed-steps, steps-allowed, blocked-is, unset-is, no-barrier}
-use Rattle.review.proofs.Plays.{Ends, Entry, through, refused-at, mismatched-at, Through, plays-all, legal-through, clean-through}
+use Rattle.review.proofs.Ties.{allowed-steps, steps-allowed, blocked-is, unset-is, no-barrier}
+use Rattle.review.proofs.Plays.{Ends, through, refused-at, mismatched-at, Through, plays-all, legal-through, clean-through}
 
 -- verdicts of different numbers are not the same
 pub unlike {ℓ} : {A : Type ℓ} {v w : Verdict} → v ≡ w → numbered v .number ≢ numbered w .number → A

@@ -1,17 +1,15 @@
 -- A state that a legal schedule leads to, and what a loop over steps needs of it. Assumes nothing.
 use mathlib.Core.Path.{_≡_, refl, sym, ap, _∙_}
-use mathlib.Core.Logic.{⊎-elim, _≢_}
-use mathlib.Core.Bool.{true, false}
+use mathlib.Core.Logic.{⊎-elim}
+use mathlib.Core.Bool.{true}
 use mathlib.Core.List.{List, [], _∷_}
 use Prim.Native.Nat.{ℕ, _<_}
 use native.Mathlib.Omega.{arith}
-use lib.ListN.{length}
 use Rattle.tables.specs.Rows.{rows}
 use Rattle.tables.specs.Rules.{Keeps}
 use Rattle.relation.proofs.Truth.{split, clashing}
 use Rattle.schedules.specs.Threads.{Steps}
 use Rattle.review.specs.declared.state.Replay.{Replay}
-use Rattle.review.specs.declared.step.How.{How}
 use Rattle.review.specs.declared.step.How.the-variants.{Mismatch, Ran}
 use Rattle.review.specs.declared.step.Did.{Did}
 use Rattle.review.specs.declared.step.Did.the-variants.{NotAllowed, Took}

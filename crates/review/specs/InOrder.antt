@@ -1,6 +1,5 @@
 -- Verdicts in the order tested.
 use mathlib.Core.Bool.{cond}
-use Prim.Native.Nat.{ℕ}
 use lib.Dec.{eqb}
 use Rattle.tables.specs.declared.verdict.Told.{Told}
 

@@ -4,7 +4,6 @@ use mathlib.Core.Bool.{Bool, cond, _||_}
 use mathlib.Core.List.{List, [], _∷_}
 use Prim.Native.Nat.{ℕ}
 use lib.Dec.{eqb, ltb}
-use lib.ListN.{length}
 use Rattle.tables.specs.Rows.{rows}
 use Rattle.tables.specs.Rules.{checked}
 use Rattle.tables.specs.Verdicts.{tell, numbered}

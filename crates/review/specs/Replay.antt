@@ -9,7 +9,6 @@ use Rattle.review.specs.declared.state.Replay.{Replay}
 use Rattle.review.specs.declared.step.How.the-variants.{Mismatch, Ran}
 use Rattle.review.specs.declared.step.Did.{Did}
 use Rattle.review.specs.declared.step.Did.the-variants.{NotAllowed, Took}
-use Rattle.review.specs.declared.step.Stepped.{Stepped}
 use Rattle.review.specs.declared.replay.Replayed.{Replayed}
 use Rattle.review.specs.State.{start}
 use Rattle.review.specs.Step.{stepped}

@@ -2,13 +2,12 @@
 use mathlib.Core.Path.{_≡_}
 use mathlib.Core.Bool.{Bool, true, false, cond, _&&_}
 use mathlib.Core.List.{List}
-use Prim.Native.Nat.{ℕ, _+_, _≤_, _<_}
+use Prim.Native.Nat.{ℕ, _+_, _<_}
 use lib.Dec.{eqb, leb, ltb}
 use lib.ListN.{length, getD}
 use Rattle.tables.specs.Limits.{mostThreads, barriers}
 use Rattle.tables.specs.Rows.{rows, kind, name, count, arrive, sync, firstRow}
 use Rattle.tables.specs.Rules.{keeps}
-use Rattle.review.specs.declared.barrier.Barrier.{Barrier}
 use Rattle.review.specs.declared.barrier.Met.{Met}
 use Rattle.review.specs.declared.barrier.Met.the-variants.{Clash, Stays, Completes}
 use Rattle.review.specs.declared.state.Replay.{Replay}

@@ -1,8 +1,5 @@
 -- `bare` meets its contract: an empty sheet is that of no pairs. Assumes nothing.
-use mathlib.Core.Path.{ap}
 use borrow.Author.Needs.{needs}
-use Rattle.review.specs.declared.sheet.Sheet.{Sheet}
-use Rattle.review.specs.declared.judge.Finding.{Finding}
 use Rattle.review.proofs.judge.bare.Statement.{statement}
 use Rattle.review.proofs.judge.bare.Tie as tie
 

@@ -1,5 +1,5 @@
 -- `judge` meets its contract: 5 and 7 stand before 6, 8 and 9. Assumes nothing.
-use mathlib.Core.Path.{_≡_, sym, _∙_}
+use mathlib.Core.Path.{sym, _∙_}
 use borrow.Author.Needs.{needs}
 use Rattle.tables.proofs.Verdicts.{zero-clean}
 use Rattle.review.specs.Ending.{ended}

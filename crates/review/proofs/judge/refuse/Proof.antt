@@ -1,5 +1,4 @@
 -- `refuse` meets its contract: each refusal from the test that found it, in the order tested. Assumes nothing.
-use mathlib.Core.Path.{_≡_}
 use native.Mathlib.Omega.{arith}
 use borrow.Author.Needs.{needs}
 use Rattle.tables.specs.Limits.{mostRows}

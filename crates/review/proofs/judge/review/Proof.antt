@@ -1,11 +1,10 @@
 -- `review` meets its contract: refused and judged before a room is touched, or filled. Assumes nothing.
-use mathlib.Core.Path.{_≡_, sym, ap, _∙_}
+use mathlib.Core.Path.{ap, _∙_}
 use native.Mathlib.Omega.{arith}
 use borrow.Author.Needs.{needs}
-use Rattle.tables.specs.Limits.{mostRows}
 use Rattle.review.specs.Judge.{judged}
 use Rattle.review.proofs.Refusals.{number-is, said-zero}
-use Rattle.review.proofs.Reviews.{Admitted, admitted, judges-replay, reviewed-refused, reviewed-judged, reviewed-filled}
+use Rattle.review.proofs.Reviews.{admitted, judges-replay, reviewed-refused, reviewed-judged, reviewed-filled}
 use Rattle.review.proofs.judge.review.Statement.{statement}
 use Rattle.review.proofs.judge.review.Tie as tie
 
