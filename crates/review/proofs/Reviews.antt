@@ -28,7 +28,7 @@ use Rattle.review.specs.declared.faults.Fault.the-variants.{Reuse, Race}
 use Rattle.review.specs.declared.judge.Finding.{Finding}
 use Rattle.review.specs.Replay.{played}
 use Rattle.review.specs.Ending.{lowestAllowed, lowestBlocked, lowestSet, ended}
-use Rattle.review.specs.Order.{at, put, Reached}
+use Rattle.review.specs.Order.{numberAt, put, Reached}
 use Rattle.review.specs.Faults.{faults}
 use Rattle.review.specs.Sheet.{sheetOf}
 use Rattle.review.specs.Judge.{shortRooms, refused, judged, firstPair, faultTold, Looked, generations, reaches, verdictOf, fills, Plays}
@@ -181,7 +181,7 @@ module _ (commands lengths σ relation room : List ℕ) where
     -- 0, 10 and 11
     module _ (clean : judged lengths (played commands lengths σ) .number ≡ 0) (relation′ room′ : List ℕ)
         {q : Replayed} (replay : q ≡ played commands lengths σ) (given : room′ ≡ put (q .generations) (rows commands) room)
-        (is-reached : Reached commands lengths (at room′) relation relation′) where
+        (is-reached : Reached commands lengths (numberAt room′) relation relation′) where
       is-put : room′ ≡ put (played commands lengths σ .generations) (rows commands) room
       is-put = given ∙ ap (λ (q : Replayed). put (q .generations) (rows commands) room) replay
 
@@ -194,16 +194,16 @@ module _ (commands lengths σ relation room : List ℕ) where
       fits : rows commands ≤ length (played commands lengths σ .generations)
       fits = omega (arith, A .keeps .few-rows, T .gens .long)
 
-      same : (c : ℕ) → c < rows commands → at room′ c ≡ g c
+      same : (c : ℕ) → c < rows commands → numberAt room′ c ≡ g c
       same c l = ap (λ (r : List ℕ). getD r c 0) is-put ∙ put-front (played commands lengths σ .generations) room (rows commands) fits c l
 
       reached : Reached commands lengths g relation relation′
-      reached = same-reached commands lengths (at room′) g same relation relation′ is-reached
+      reached = same-reached commands lengths (numberAt room′) g same relation relation′ is-reached
 
-      found : (f : Fault) → faults commands lengths (at room′) (related relation′ (rows commands)) f ≡ faults commands lengths g (reaches commands lengths σ) f
-      found = same-faults commands lengths (at room′) g _ _ same (related-reaches commands lengths g relation relation′ reached (A .relation-fits))
+      found : (f : Fault) → faults commands lengths (numberAt room′) (related relation′ (rows commands)) f ≡ faults commands lengths g (reaches commands lengths σ) f
+      found = same-faults commands lengths (numberAt room′) g _ _ same (related-reaches commands lengths g relation relation′ reached (A .relation-fits))
 
-      pub reviewed-filled : (r : Finding) → Looked commands lengths (at room′) (related relation′ (rows commands)) r → Reviewed commands lengths σ relation room r relation′ room′
+      pub reviewed-filled : (r : Finding) → Looked commands lengths (numberAt room′) (related relation′ (rows commands)) r → Reviewed commands lengths σ relation room r relation′ room′
       unfolding verdictOf
       reviewed-filled r L =
           let e : numbered (r .verdict) ≡ faultTold commands lengths g (reaches commands lengths σ) = L .verdict ∙ rw (found Reuse, found Race) in

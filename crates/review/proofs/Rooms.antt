@@ -20,7 +20,7 @@ use Rattle.relation.proofs.Chains as chains
 use Rattle.relation.proofs.Rooms.{Inside, place-in, related-inside, holds-related, holds-map, holds-more, holds-trans, holds-self, wrote}
 use Rattle.schedules.specs.Order.{Reaches, edge, reach}
 use Rattle.schedules.proofs.Table.{decides, edge-alike}
-use Rattle.review.specs.Order.{program, at, put, meets, edges, Reached, Roomy, From, Drawn, Ordering}
+use Rattle.review.specs.Order.{program, numberAt, put, meets, edges, Reached, Roomy, From, Drawn, Ordering}
 
 -- ---- generations
 
@@ -134,7 +134,7 @@ pub all-go-on : {commands lengths generations b r : List ℕ} {i : ℕ} → Room
 all-go-on {commands} {lengths} {generations} {b} {r} {i} R D =
     record {
       roomy = record { keeps = R .keeps; generations-fit = R .generations-fit; relation-fits = omega (arith, R .relation-fits, D .len) };
-      drawn = holds-self b r (rows commands) (From commands lengths (at generations) i) D;
+      drawn = holds-self b r (rows commands) (From commands lengths (numberAt generations) i) D;
     }
 
 -- a room that holds nothing has the edges from the numbers below 0
@@ -142,7 +142,7 @@ pub none-go-on : {commands lengths generations b r : List ℕ} {said : Bool} →
     → Ordering commands lengths generations r 0
 none-go-on {commands} {lengths} {generations} {b} {r} R W =
     all-go-on R
-    (holds-map b r (rows commands) (λ i j. ⊥) (From commands lengths (at generations) 0) (λ x y lx ly. (λ z. absurd z, λ f. absurd (omega (arith, f .low))))
+    (holds-map b r (rows commands) (λ i j. ⊥) (From commands lengths (numberAt generations) 0) (λ x y lx ly. (λ z. absurd z, λ f. absurd (omega (arith, f .low))))
     (wrote (R .relation-fits) W))
 
 pub all-more : {commands lengths b r s : List ℕ} {g : ℕ → ℕ} {i : ℕ} → Holds b r (rows commands) (From commands lengths g i)
@@ -192,12 +192,12 @@ module _ (commands lengths : List ℕ) (g : ℕ → ℕ) where
 -- the room is cleared, the edges are drawn, and it is closed
 pub ordered : {commands lengths generations b r a s : List ℕ} {said told : Bool} → Roomy commands lengths generations b
     → Writes (λ i j. ⊥) b r (rows commands) said → Drawn commands lengths generations r a (rows commands)
-    → Writes (Chain (Related a (rows commands))) a s (rows commands) told → Reached commands lengths (at generations) b s
+    → Writes (Chain (Related a (rows commands))) a s (rows commands) told → Reached commands lengths (numberAt generations) b s
 ordered {commands} {lengths} {generations} {b} {r} {a} {s} R W D K =
     let H = wrote (R .relation-fits) W in
     let fits : words (rows commands) ≤ length a = omega (arith, R .relation-fits, D .len, H .len) in
-    holds-trans b r s (rows commands) (λ i j. ⊥) (Reaches (program commands lengths) (at generations)) H
-    (closed-reached commands lengths (at generations) r a fits D s (wrote fits K))
+    holds-trans b r s (rows commands) (λ i j. ⊥) (Reaches (program commands lengths) (numberAt generations)) H
+    (closed-reached commands lengths (numberAt generations) r a fits D s (wrote fits K))
 
 -- over generations that are the same
 pub same-reached : (commands lengths : List ℕ) (g h : ℕ → ℕ) → ((c : ℕ) → c < rows commands → g c ≡ h c)

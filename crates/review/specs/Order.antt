@@ -33,8 +33,8 @@ program commands lengths =
     }
 
 -- numbers in a room, or in a list, by their place
-abbrev pub at : List ℕ → ℕ → ℕ
-at room c = getD room c 0
+abbrev pub numberAt : List ℕ → ℕ → ℕ
+numberAt room c = getD room c 0
 
 -- the first m numbers are put into a room; the rest is kept
 abbrev pub put : List ℕ → ℕ → List ℕ → List ℕ
@@ -73,7 +73,7 @@ pub record From (commands lengths : List ℕ) (g : ℕ → ℕ) (i x y : ℕ) : 
 
 -- a room holds them
 abbrev pub Drawn : List ℕ → List ℕ → List ℕ → List ℕ → List ℕ → ℕ → Type 0
-Drawn commands lengths generations before after i = Holds before after (rows commands) (From commands lengths (at generations) i)
+Drawn commands lengths generations before after i = Holds before after (rows commands) (From commands lengths (numberAt generations) i)
 
 pub record Ordering (commands lengths generations relation : List ℕ) (i : ℕ) : Type 0 where
   pub roomy : Roomy commands lengths generations relation

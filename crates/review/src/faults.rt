@@ -5,7 +5,7 @@ ghost use lib.ListN.{length};
 ghost use Rattle.tables.specs.Rows.{rows};
 ghost use Rattle.tables.specs.Rules.{Keeps};
 ghost use Rattle.relation.specs.Table.{related};
-ghost use Rattle.review.specs.Order.{at, TwoRows};
+ghost use Rattle.review.specs.Order.{numberAt, TwoRows};
 ghost use Rattle.review.specs.Sheet.{sheetOf};
 ghost use Rattle.review.specs.Faults.{succeeds, reuse, conflict, race, faulty, pairOf, alongRow, faults, addAll, Looks, Adds};
 use crate::order::is_first;
@@ -24,7 +24,7 @@ pub(crate) enum Fault {
 // Have c1 and c2 the same barrier, and is c2 one generation after c1?
 fn succeeds(commands: &[u32], generations: &[u32], c1: usize, c2: usize) -> bool
     requires { ⌜ TwoRows (now commands) (now generations) c1 c2 ⌝ }
-    ensures { λ r. ⌜ r ≡ succeeds (now (commands .entry)) (at (now (generations .entry))) c1 c2 ⌝ }
+    ensures { λ r. ⌜ r ≡ succeeds (now (commands .entry)) (numberAt (now (generations .entry))) c1 c2 ⌝ }
 {
     let both = (Table::ARRIVE <= commands[c1 * 3]) & (Table::ARRIVE <= commands[c2 * 3]);
     let same_barrier = commands[c1 * 3 + 1] == commands[c2 * 3 + 1];
@@ -42,7 +42,7 @@ fn is_reuse(
     c2: usize,
 ) -> bool
     requires { ⌜ Looks (now commands) (now lengths) (now generations) c1 c2 ⌝ }
-    ensures { λ r. ⌜ r ≡ reuse (now (commands .entry)) (now (lengths .entry)) (at (now (generations .entry))) (related (now (relation .entry)) (rows (now (commands .entry)))) c1 c2 ⌝ }
+    ensures { λ r. ⌜ r ≡ reuse (now (commands .entry)) (now (lengths .entry)) (numberAt (now (generations .entry))) (related (now (relation .entry)) (rows (now (commands .entry)))) c1 c2 ⌝ }
 {
     if !succeeds(commands, generations, c1, c2) {
         return false;
@@ -110,7 +110,7 @@ fn is_fault(
     j: usize,
 ) -> bool
     requires { ⌜ Looks (now commands) (now lengths) (now generations) i j ⌝ }
-    ensures { λ r. ⌜ r ≡ faulty (now (commands .entry)) (now (lengths .entry)) (at (now (generations .entry))) (related (now (relation .entry)) (rows (now (commands .entry)))) fault i j ⌝ }
+    ensures { λ r. ⌜ r ≡ faulty (now (commands .entry)) (now (lengths .entry)) (numberAt (now (generations .entry))) (related (now (relation .entry)) (rows (now (commands .entry)))) fault i j ⌝ }
 {
     match fault {
         Fault::Reuse => is_reuse(commands, lengths, generations, relation, j, i),
@@ -129,7 +129,7 @@ fn search_row(
     i: usize,
 ) -> Sheet
     requires { ⌜ Adds (now commands) (now lengths) (now generations) sheet i ⌝ }
-    ensures { λ r. ⌜ r ≡ addAll sheet (alongRow (faulty (now (commands .entry)) (now (lengths .entry)) (at (now (generations .entry))) (related (now (relation .entry)) (rows (now (commands .entry)))) fault i) (pairOf fault i) (rows (now (commands .entry)))) ⌝ }
+    ensures { λ r. ⌜ r ≡ addAll sheet (alongRow (faulty (now (commands .entry)) (now (lengths .entry)) (numberAt (now (generations .entry))) (related (now (relation .entry)) (rows (now (commands .entry)))) fault i) (pairOf fault i) (rows (now (commands .entry)))) ⌝ }
 {
     let m = commands.len() / 3;
     let mut found = sheet;
@@ -152,7 +152,7 @@ pub(crate) fn search(
     relation: &[u32],
 ) -> Sheet
     requires { ⌜ Keeps (now commands) (now lengths) × (rows (now commands) ≤ length (now generations)) ⌝ }
-    ensures { λ r. ⌜ r ≡ sheetOf (faults (now (commands .entry)) (now (lengths .entry)) (at (now (generations .entry))) (related (now (relation .entry)) (rows (now (commands .entry)))) fault) ⌝ }
+    ensures { λ r. ⌜ r ≡ sheetOf (faults (now (commands .entry)) (now (lengths .entry)) (numberAt (now (generations .entry))) (related (now (relation .entry)) (rows (now (commands .entry)))) fault) ⌝ }
 {
     let m = commands.len() / 3;
     let mut found = Sheet::empty();

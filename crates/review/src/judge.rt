@@ -8,7 +8,7 @@ ghost use Rattle.tables.specs.Rules.{Keeps};
 ghost use Rattle.tables.specs.Verdicts.{numbered};
 ghost use Rattle.relation.specs.Table.{related};
 ghost use Rattle.review.specs.Sheet.{sheetOf};
-ghost use Rattle.review.specs.Order.{at};
+ghost use Rattle.review.specs.Order.{numberAt};
 ghost use Rattle.review.specs.Judge.{refused, judged, Looked, Plays};
 ghost use Rattle.review.specs.Agreement.{Reviewed};
 use crate::faults::Fault;
@@ -70,7 +70,7 @@ fn judge(replayed: Replayed, lengths: &[u32]) -> Verdict
 // 10, 11 or 0, with the sheet. Races are looked for only when there is no reuse fault.
 fn look(commands: &[u32], lengths: &[u32], generations: &[u32], relation: &[u32]) -> Finding
     requires { ⌜ Keeps (now commands) (now lengths) × (rows (now commands) ≤ length (now generations)) ⌝ }
-    ensures { λ r. ⌜ Looked (now (commands .entry)) (now (lengths .entry)) (at (now (generations .entry))) (related (now (relation .entry)) (rows (now (commands .entry)))) r ⌝ }
+    ensures { λ r. ⌜ Looked (now (commands .entry)) (now (lengths .entry)) (numberAt (now (generations .entry))) (related (now (relation .entry)) (rows (now (commands .entry)))) r ⌝ }
 {
     let reuses = search(Fault::Reuse, commands, lengths, generations, relation);
     if reuses.total != 0 {

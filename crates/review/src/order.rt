@@ -4,7 +4,7 @@ ghost use Prim.Native.Nat.{_≤_, _<_, suc};
 ghost use lib.ListN.{length};
 ghost use Rattle.tables.specs.Limits.{mostThreads, mostRows};
 ghost use Rattle.tables.specs.Rows.{rows, isFirst};
-ghost use Rattle.review.specs.Order.{put, at, meets, edges, Drawn, TwoRows, Ordering, Roomy, Reached};
+ghost use Rattle.review.specs.Order.{put, numberAt, meets, edges, Drawn, TwoRows, Ordering, Roomy, Reached};
 use relation::clear;
 use relation::close;
 use relation::relate;
@@ -35,7 +35,7 @@ pub(crate) fn put_generations(room: &mut [u32], generations: [u32; Table::ROWS],
 // Does i register where and when j syncs: at the same barrier, in the same generation?
 fn meets(commands: &[u32], generations: &[u32], i: usize, j: usize) -> bool
     requires { ⌜ TwoRows (now commands) (now generations) i j ⌝ }
-    ensures { λ r. ⌜ r ≡ meets (now (commands .entry)) (at (now (generations .entry))) i j ⌝ }
+    ensures { λ r. ⌜ r ≡ meets (now (commands .entry)) (numberAt (now (generations .entry))) i j ⌝ }
 {
     let registers = Table::ARRIVE <= commands[i * 3];
     let syncs = commands[j * 3] == Table::SYNC;
@@ -47,7 +47,7 @@ fn meets(commands: &[u32], generations: &[u32], i: usize, j: usize) -> bool
 // Is j the same command as i, its thread's next, or one that i meets?
 fn edge(commands: &[u32], lengths: &[u32], generations: &[u32], i: usize, j: usize) -> bool
     requires { ⌜ (length (now lengths) ≤ mostThreads) × TwoRows (now commands) (now generations) i j ⌝ }
-    ensures { λ r. ⌜ r ≡ edges (now (commands .entry)) (now (lengths .entry)) (at (now (generations .entry))) i j ⌝ }
+    ensures { λ r. ⌜ r ≡ edges (now (commands .entry)) (now (lengths .entry)) (numberAt (now (generations .entry))) i j ⌝ }
 {
     if i == j {
         return true;
@@ -96,7 +96,7 @@ pub(crate) fn put_order(
     relation: &mut [u32],
 )
     requires { ⌜ Roomy (now commands) (now lengths) (now generations) (now relation) ⌝ }
-    ensures { λ r. ⌜ Reached (now (commands .entry)) (now (lengths .entry)) (at (now (generations .entry))) (now (relation .entry)) (now (relation .exit)) ⌝ }
+    ensures { λ r. ⌜ Reached (now (commands .entry)) (now (lengths .entry)) (numberAt (now (generations .entry))) (now (relation .entry)) (now (relation .exit)) ⌝ }
 {
     let m = (commands.len() / 3) as u32;
     clear(relation, m);

@@ -5,7 +5,7 @@ use Prim.Native.Nat.{_*_, _≤_, _-_}
 use native.Mathlib.Omega.{arith}
 use Rattle.tables.specs.Rows.{rows}
 use Rattle.relation.specs.Table.{related}
-use Rattle.review.specs.Order.{at}
+use Rattle.review.specs.Order.{numberAt}
 use Rattle.review.specs.Sheet.{sheetOf}
 use Rattle.review.specs.Faults.{faulty, pairOf, allRows, faults, addAll, Adds}
 use Rattle.review.proofs.Sheets.{addAll-sheet, row-fits, all-none, all-more}
@@ -16,7 +16,7 @@ use Rattle.review.proofs.faults.search.Tie as tie
 abbrev Inv-loop : tie.InvT-loop
 Inv-loop fault commands lengths generations relation m found₀ i₀ found i =
     (i ≤ rows commands)
-    × (found ≡ addAll (sheetOf []) (allRows (faulty commands lengths (at generations) (related relation (rows commands)) fault) (pairOf fault) (rows commands) i))
+    × (found ≡ addAll (sheetOf []) (allRows (faulty commands lengths (numberAt generations) (related relation (rows commands)) fault) (pairOf fault) (rows commands) i))
     × (found .total ≤ i * rows commands)
 
 abbrev μ-loop : tie.MeasureT-loop

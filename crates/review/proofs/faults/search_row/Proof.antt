@@ -5,7 +5,7 @@ use Prim.Native.Nat.{_≤_, _-_}
 use Rattle.tables.specs.Limits.{mostRows}
 use Rattle.tables.specs.Rows.{rows}
 use Rattle.relation.specs.Table.{related}
-use Rattle.review.specs.Order.{at}
+use Rattle.review.specs.Order.{numberAt}
 use Rattle.review.specs.Sheet.{added}
 use Rattle.review.specs.Faults.{faulty, pairOf, alongRow, addAll}
 use Rattle.review.proofs.Sheets.{row-none, row-found, row-passed, row-fits}
@@ -17,7 +17,7 @@ use Rattle.review.proofs.faults.search_row.Tie as tie
 abbrev Inv-loop : tie.InvT-loop
 Inv-loop fault commands lengths generations relation i m found₀ j₀ found j =
     (j ≤ rows commands)
-    × (found ≡ addAll found₀ (alongRow (faulty commands lengths (at generations) (related relation (rows commands)) fault i) (pairOf fault i) j))
+    × (found ≡ addAll found₀ (alongRow (faulty commands lengths (numberAt generations) (related relation (rows commands)) fault i) (pairOf fault i) j))
 
 abbrev μ-loop : tie.MeasureT-loop
 μ-loop fault commands lengths generations relation i m found₀ j₀ found j = rows commands - j

@@ -5,7 +5,7 @@ use Prim.Native.Nat.{_≤_, _-_}
 use Rattle.tables.specs.Limits.{mostRows}
 use Rattle.tables.specs.Rows.{rows}
 use Rattle.relation.specs.Table.{Holds}
-use Rattle.review.specs.Order.{at}
+use Rattle.review.specs.Order.{numberAt}
 use Rattle.review.proofs.Rooms.{Partly, row-none, row-drawn, row-passed, row-all}
 use borrow.Author.Needs.{needs}
 use Rattle.review.proofs.order.draw_row.Statement.{statement}
@@ -13,7 +13,7 @@ use Rattle.review.proofs.order.draw_row.Tie as tie
 
 abbrev Inv-loop : tie.InvT-loop
 Inv-loop commands lengths generations relation₀ i m j₀ relation j =
-    (j ≤ rows commands) × Holds relation₀ relation (rows commands) (Partly commands lengths (at generations) i j)
+    (j ≤ rows commands) × Holds relation₀ relation (rows commands) (Partly commands lengths (numberAt generations) i j)
 
 abbrev μ-loop : tie.MeasureT-loop
 μ-loop commands lengths generations relation₀ i m j₀ relation j = rows commands - j
