@@ -19,7 +19,7 @@ use Rattle.review.specs.Order.{program}
 use Rattle.review.specs.Schedules.{Complete, Clean, Agree, Precedes, InOneOrder, Disagree, unclean, unlike}
 use Rattle.review.proofs.Programs as programs
 use Rattle.review.proofs.Plays.{clean-through}
-use Rattle.review.proofs.Schedules.{complete-to, complete-from, clean-to, clean-from, generation-is}
+use Rattle.review.proofs.Schedules.{complete-to, complete-from, clean-from, generation-is}
 use Rattle.review.proofs.Precede.{precedes-to, precedes-from}
 
 -- ---- what reaches what hangs on the generations of the program's commands alone
@@ -58,13 +58,6 @@ module _ {rowsOf lengths : List ℕ} (K : Keeps rowsOf lengths) where
       goes (reaches-on g n x (omega arith) (sym th)) (along l (omega arith) nf)
 
   -- ---- agreement
-
-  pub agree-to : Agree rowsOf lengths → claims.Agree P H
-  agree-to A σ τ cσ cτ =
-      let back : (υ : List ℕ) → threads.Complete P H υ → Clean rowsOf lengths (reverse υ) = λ υ c. A .clean (reverse υ) (complete-from K c) in
-      let clean : (υ : List ℕ) → threads.Complete P H υ → threads.Clean P H υ = λ υ c. subst (threads.Clean P H) (reverse-reverse υ) (clean-to K (back υ c)) in
-      let gens : (υ : List ℕ) (c : threads.Complete P H υ) (x : ℕ) → x < rows rowsOf → _ = λ υ c x l. generation-is K (clean-through K (reverse υ) (back υ c .through)) x l ∙ ap (λ (l : List ℕ). threads.gens P H l x) (reverse-reverse υ) in
-      (clean σ cσ, clean τ cτ, λ x l. sym (gens τ cτ x l) ∙ sym (A .alike (reverse σ) (reverse τ) (complete-from K cσ) (complete-from K cτ) x l) ∙ gens σ cσ x l)
 
   pub agree-from : claims.Agree P H → Agree rowsOf lengths
   agree-from S =

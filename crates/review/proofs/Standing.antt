@@ -16,11 +16,10 @@ use Rattle.review.specs.declared.step.Did.the-variants.{NotAllowed, Took
 use Rattle.review.specs.declared.step.Stepped.{Stepped}
 use Rattle.review.specs.State.{start}
 use Rattle.review.specs.Step.{allowed, stepped, Counts}
-use Rattle.review.specs.Ending.{Ends}
 use Rattle.review.specs.Writer.{goesOn}
 use Rattle.review.specs.Order.{program}
 use Rattle.review.proofs.Programs.{threads}
-use Rattle.review.proofs.Ties.{Stands, stands-start, allowed-steps, command-row, counts, ends}
+use Rattle.review.proofs.Ties.{Stands, stands-start, allowed-steps, command-row, counts}
 use Rattle.review.proofs.Tied.{Outcome, ran, mismatched, outcome, not-allowed}
 
 pub record Standing (commands lengths : List ℕ) (s : Replay) : Type 0 where
@@ -46,9 +45,6 @@ module _ {commands lengths : List ℕ} where
   module _ {s : Replay} (S : Standing commands lengths s) where
     pub standing-counts : Counts s
     standing-counts = counts (S .keeps) (S .stands)
-
-    pub standing-ends : Ends lengths s
-    standing-ends = ends (S .keeps) (S .stands)
 
     -- a step that ran leads to such a state again
     pub standing-ran : (t c generation : ℕ) → stepped commands lengths s t .did ≡ Took (Ran c generation)

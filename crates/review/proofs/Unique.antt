@@ -34,13 +34,13 @@ module _ (commands lengths σ relation room : List ℕ) (a b : Finding) {ra ga r
       let u : fills (number b) ≡ true = ap fills (sym same-number) ∙ t in (
         ap₂ (λ (v : Verdict) (s : Sheet). record { verdict = v; sheet = s }) same-verdict (A .demand₂ .sheet t ∙ sym (B .demand₂ .sheet u)),
         holds-one _ _ _ _ _ wa wb (A .demand₂ .relation-holds t) (B .demand₂ .relation-holds u),
-        A .demand₂ .room-holds t ∙ sym (B .demand₂ .room-holds u)
+        A .demand₂ .room-holds t ∙ sym (B .demand₂ .room-holds u),
       ))
       (λ (t : fills (number a) ≡ false).
       let u : fills (number b) ≡ false = ap fills (sym same-number) ∙ t in (
         ap₂ (λ (v : Verdict) (s : Sheet). record { verdict = v; sheet = s }) same-verdict (A .demand₁ .empty t ∙ sym (B .demand₁ .empty u)),
         A .demand₁ .relation-kept t ∙ sym (B .demand₁ .relation-kept u),
-        A .demand₁ .room-kept t ∙ sym (B .demand₁ .room-kept u)
+        A .demand₁ .room-kept t ∙ sym (B .demand₁ .room-kept u),
       ))
       (split (fills (number a)))
 
@@ -56,11 +56,11 @@ module _ (commands lengths room : List ℕ) (a b : Written) {ra rb : List ℕ} (
       let y = B .wrote (ap (λ (v : Verdict). numbered v .number) (sym one-verdict) ∙ e) in
       let n : a .length ≡ b .length = x .long ∙ sym (y .long) in (
         ap₂ (λ (v : Verdict) (n : ℕ). record { verdict = v; length = n }) one-verdict n,
-        x .room ∙ ap (λ (n : ℕ). schedule commands lengths ++ drop n room) n ∙ sym (y .room)
+        x .room ∙ ap (λ (n : ℕ). schedule commands lengths ++ drop n room) n ∙ sym (y .room),
       ))
       (λ (f : numbered (a .verdict) .number ≢ 0).
       let x = A .refused f in
       let y = B .refused (λ e. f (ap (λ (v : Verdict). numbered v .number) one-verdict ∙ e)) in (
         ap₂ (λ (v : Verdict) (n : ℕ). record { verdict = v; length = n }) one-verdict (x .0 ∙ sym (y .0)),
-        x .1 ∙ sym (y .1)
+        x .1 ∙ sym (y .1),
       ))
