@@ -31,7 +31,7 @@ use Rattle.review.specs.Ending.{lowestAllowed, lowestBlocked, lowestSet,
 use Rattle.review.specs.Order.{numberAt, put, Reached}
 use Rattle.review.specs.Faults.{faults}
 use Rattle.review.specs.Sheet.{sheetOf}
-use Rattle.review.specs.Judge.{shortRooms, refused, judged, firstPair, faultTold, Looked, generations, reaches, verdictOf, fills, Plays}
+use Rattle.review.specs.Judge.{shortRooms, refused, judged, firstPair, faultTold, Filling, generations, reaches, verdictOf, fills, Plays}
 use Rattle.review.specs.Agreement.{number, Judges, Reviewed}
 use Rattle.review.proofs.Refusals.{or-first, or-second}
 use Rattle.review.proofs.Ties.{ends}
@@ -179,11 +179,10 @@ module _ (commands lengths σ relation room : List ℕ) where
         (omega (arith, ap (λ (t : Told). t .number) e, judged-small (A .keeps) σ))
 
     -- 0, 10 and 11
-    module _ (clean : judged lengths (played commands lengths σ) .number ≡ 0) (relation′ room′ : List ℕ)
-        {q : Replayed} (replay : q ≡ played commands lengths σ) (given : room′ ≡ put (q .generations) (rows commands) room)
-        (is-reached : Reached commands lengths (numberAt room′) relation relation′) where
+    module _ (clean : judged lengths (played commands lengths σ) .number ≡ 0) {q : Replayed} (replay : q ≡ played commands lengths σ)
+        {r : Finding} {relation′ room′ : List ℕ} (F : Filling commands lengths (q .generations) relation room r relation′ room′) where
       is-put : room′ ≡ put (played commands lengths σ .generations) (rows commands) room
-      is-put = given ∙ ap (λ (q : Replayed). put (q .generations) (rows commands) room) replay
+      is-put = F .put-in ∙ ap (λ (q : Replayed). put (q .generations) (rows commands) room) replay
 
       T : Through (A .keeps) σ
       T = clean-through (A .keeps) σ (clean-verdict lengths (played commands lengths σ) clean)
@@ -198,15 +197,15 @@ module _ (commands lengths σ relation room : List ℕ) where
       same c l = ap (λ (r : List ℕ). getD r c 0) is-put ∙ put-front (played commands lengths σ .generations) room (rows commands) fits c l
 
       reached : Reached commands lengths g relation relation′
-      reached = same-reached commands lengths (numberAt room′) g same relation relation′ is-reached
+      reached = same-reached commands lengths (numberAt room′) g same relation relation′ (F .reached)
 
       found : (f : Fault) → faults commands lengths (numberAt room′) (related relation′ (rows commands)) f ≡ faults commands lengths g (reaches commands lengths σ) f
       found = same-faults commands lengths (numberAt room′) g _ _ same (related-reaches commands lengths g relation relation′ reached (A .relation-fits))
 
-      pub reviewed-filled : (r : Finding) → Looked commands lengths (numberAt room′) (related relation′ (rows commands)) r → Reviewed commands lengths σ relation room r relation′ room′
+      pub reviewed-filled : Reviewed commands lengths σ relation room r relation′ room′
       unfolding verdictOf
-      reviewed-filled r L =
-          let e : numbered (r .verdict) ≡ faultTold commands lengths g (reaches commands lengths σ) = L .verdict ∙ rw (found Reuse, found Race) in
+      reviewed-filled =
+          let e : numbered (r .verdict) ≡ faultTold commands lengths g (reaches commands lengths σ) = F .looked .verdict ∙ rw (found Reuse, found Race) in
           let q : numbered (r .verdict) ≡ verdicts = e ∙ or-second (judged lengths (played commands lengths σ)) _ clean ∙ or-second refusal _ pass in
           let n : number r ≡ faultTold commands lengths g (reaches commands lengths σ) .number = ap (λ (t : Told). t .number) e in
           let f : fills (number r) ≡ true = ap fills n ∙ fault-fills (faults commands lengths g (reaches commands lengths σ) Reuse) (faults commands lengths g (reaches commands lengths σ) Race) in
@@ -217,10 +216,10 @@ module _ (commands lengths σ relation room : List ℕ) where
                   empty = λ z. clashing f z;
                   relation-kept = λ z. clashing f z;
                   room-kept = λ z. clashing f z;
-                  relation-beyond = is-reached .kept;
+                  relation-beyond = F .reached .kept;
                   room-beyond = λ p h. ap (λ (r : List ℕ). getD r p 0) is-put ∙ put-beyond (played commands lengths σ .generations) room (rows commands) fits p h;
                 };
             demand₂ =
-                record { verdict = q; sheet = λ _. L .sheet ∙ rw (found Reuse, found Race); relation-holds = λ _. reached; room-holds = λ _. is-put };
+                record { verdict = q; sheet = λ _. F .looked .sheet ∙ rw (found Reuse, found Race); relation-holds = λ _. reached; room-holds = λ _. is-put };
             demand₃ = third (r .verdict) q;
           }

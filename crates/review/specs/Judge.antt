@@ -9,7 +9,7 @@ use Rattle.tables.specs.Rules.{checked}
 use Rattle.tables.specs.Verdicts.{tell, numbered}
 use Rattle.tables.specs.declared.verdict.Told.{Told}
 use Rattle.tables.specs.declared.verdict.Verdict.the-variants as verdict
-use Rattle.relation.specs.Table.{words}
+use Rattle.relation.specs.Table.{words, related}
 use Rattle.schedules.specs.Order.{reach}
 use Rattle.review.specs.declared.replay.Replayed.{Replayed}
 use Rattle.review.specs.declared.sheet.Pair.{Pair}
@@ -18,7 +18,7 @@ use Rattle.review.specs.declared.judge.Finding.{Finding}
 use Rattle.review.specs.InOrder.{orElse}
 use Rattle.review.specs.Replay.{played, generation}
 use Rattle.review.specs.Ending.{ended, Ends}
-use Rattle.review.specs.Order.{program}
+use Rattle.review.specs.Order.{program, numberAt, put, Reached}
 use Rattle.review.specs.Sheet.{sheetOf}
 use Rattle.review.specs.Faults.{faults}
 
@@ -78,3 +78,9 @@ fills n = eqb n 0 || (eqb n 10 || eqb n 11)
 -- what judging a replay asks for
 pub record Plays (lengths : List ℕ) (r : Replayed) : Type 0 where
   pub ends : r .verdict ≡ verdict.Clean → Ends lengths (r .state)
+
+-- what filling leaves: the generations that were found, what reaches what over them, and what the two tell
+pub record Filling (commands lengths found relation room : List ℕ) (r : Finding) (relation′ room′ : List ℕ) : Type 0 where
+  pub put-in : room′ ≡ put found (rows commands) room
+  pub reached : Reached commands lengths (numberAt room′) relation relation′
+  pub looked : Looked commands lengths (numberAt room′) (related relation′ (rows commands)) r

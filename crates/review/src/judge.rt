@@ -8,8 +8,8 @@ ghost use Rattle.tables.specs.Rules.{Keeps};
 ghost use Rattle.tables.specs.Verdicts.{numbered};
 ghost use Rattle.relation.specs.Table.{related};
 ghost use Rattle.review.specs.Sheet.{sheetOf};
-ghost use Rattle.review.specs.Order.{numberAt};
-ghost use Rattle.review.specs.Judge.{refused, judged, Looked, Plays};
+ghost use Rattle.review.specs.Order.{numberAt, Roomy};
+ghost use Rattle.review.specs.Judge.{refused, judged, Looked, Plays, Filling};
 ghost use Rattle.review.specs.Agreement.{Reviewed};
 use crate::faults::Fault;
 use crate::faults::search;
@@ -19,6 +19,7 @@ use crate::replay::Replayed;
 use crate::replay::replay;
 use crate::sheet::Sheet;
 use relation::table_words;
+use tables::Table;
 use tables::Verdict;
 use tables::check_tables;
 
@@ -91,6 +92,22 @@ fn look(commands: &[u32], lengths: &[u32], generations: &[u32], relation: &[u32]
     bare(Verdict::Clean)
 }
 
+// The generations that a clean replay found, and happens-before over them, into the rooms; and what these tell.
+fn fill(
+    commands: &[u32],
+    lengths: &[u32],
+    found: [u32; Table::ROWS],
+    relation: &mut [u32],
+    generations: &mut [u32],
+) -> Finding
+    requires { ⌜ Roomy (now commands) (now lengths) (now generations) (now relation) ⌝ }
+    ensures { λ r. ⌜ Filling (now (commands .entry)) (now (lengths .entry)) found (now (relation .entry)) (now (generations .entry)) r (now (relation .exit)) (now (generations .exit)) ⌝ }
+{
+    put_generations(generations, found, commands.len() / 3);
+    put_order(commands, lengths, generations, relation);
+    look(commands, lengths, generations, relation)
+}
+
 // Any tables, any schedule, any rooms. The verdict up to 9 is found before a room is touched; only for 0, 10 and 11 are they filled.
 pub fn review(
     commands: &[u32],
@@ -111,7 +128,5 @@ pub fn review(
         return bare(verdict);
     }
     let found = replayed.generations;
-    put_generations(generations, found, commands.len() / 3);
-    put_order(commands, lengths, generations, relation);
-    look(commands, lengths, generations, relation)
+    fill(commands, lengths, found, relation, generations)
 }

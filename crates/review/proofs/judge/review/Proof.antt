@@ -37,42 +37,24 @@ returns-2 c =
     (reviewed-judged _ _ _ _ _ (said-zero (k .result) (n .number .ensures) (k .ensures) (p .before .if1 .left)) (j .result)
     (j .ensures ∙ ap (judged _) (p .replay .ensures)) (λ e. c .before .if2 .taken (number-is (j .result) (m .number2 .ensures) ∙ e)))
 
-put-generations-requires : tie.Need-put-generations-requires
-put-generations-requires c κs =
-    let p = c .before .before .before .before .before .before in
+fill-requires : tie.Need-fill-requires
+fill-requires c κs =
+    let p = c .before .before .before .before .before .before .before in
     let n = p .before .before .before in
     let k = n .before .refuse in
     let A = admitted _ _ _ _ (said-zero (k .result) (n .number .ensures) (k .ensures) (p .before .if1 .left)) in
-    (A .generations-fit, A .keeps .few-rows)
-
-put-order-requires : tie.Need-put-order-requires
-put-order-requires c κs =
-    let p = c .before .before .before .before .before .before .before .before .before .before .before in
-    let n = p .before .before .before in
-    let k = n .before .refuse in
-    let A = admitted _ _ _ _ (said-zero (k .result) (n .number .ensures) (k .ensures) (p .before .if1 .left)) in
-    record { keeps = A .keeps; generations-fit = omega (arith, A .generations-fit); relation-fits = A .relation-fits }
-
-look-requires : tie.Need-look-requires
-look-requires c κs =
-    let p = c .before .before .before .before .before .before .before .before .before .before .before .before .before .before .before .before in
-    let n = p .before .before .before in
-    let k = n .before .refuse in
-    let A = admitted _ _ _ _ (said-zero (k .result) (n .number .ensures) (k .ensures) (p .before .if1 .left)) in
-    (A .keeps, omega (arith, A .generations-fit, c .before .before .before .before .before .before .before .before .before .put-generations .kept .0))
+    record { keeps = A .keeps; generations-fit = A .generations-fit; relation-fits = A .relation-fits }
 
 returns-3 : tie.Need-returns-3
 returns-3 c =
-    let o = c .before .before .before .before .before in
-    let g = o .before .before .before .before .before in
-    let m = g .before .before .before .before .before in
+    let f = c .before .before .before .before in
+    let m = f .before .before .before .before .before .before in
     let j = m .before .judge in
     let p = m .before .before in
     let n = p .before .before .before in
     let k = n .before .refuse in
     reviewed-filled _ _ _ _ _ (said-zero (k .result) (n .number .ensures) (k .ensures) (p .before .if1 .left))
-    (said-zero (j .result) (m .number2 .ensures) (j .ensures ∙ ap (judged _) (p .replay .ensures)) (g .before .before .before .if2 .left))
-    _ _ (p .replay .ensures) (g .put-generations .ensures) (o .put-order .ensures) _ (c .look .ensures)
+    (said-zero (j .result) (m .number2 .ensures) (j .ensures ∙ ap (judged _) (p .replay .ensures)) (f .before .before .before .before .if2 .left)) (p .replay .ensures) (f .fill .ensures)
 
 pub review-spec : {M : Type 1} → statement M
 review-spec =
@@ -87,9 +69,7 @@ review-spec =
     (λ c κs. search needs)
     (λ c κs. search needs)
     returns-2
-    put-generations-requires
-    put-order-requires
-    look-requires
+    fill-requires
     (λ c. search needs)
     (λ c. search needs)
     returns-3)
