@@ -39,15 +39,15 @@ pub reuse-same : (P : Program) {g g′ : ℕ → ℕ} → ((c : ℕ) → c < P .
 reuse-same P same r =
     record { succeeds = succeeds-same P same (r .succeeds); loose = λ w. r .loose (waits-same P (λ c l. sym (same c l)) w) }
 
-module _ {rowsOf lengths : List ℕ} (K : Keeps rowsOf lengths) where
+module _ {table lengths : List ℕ} (K : Keeps table lengths) where
   abbrev P : Program
-  P = program rowsOf lengths
+  P = program table lengths
 
-  abbrev H : threads.Threads (program rowsOf lengths)
+  abbrev H : threads.Threads (program table lengths)
   H = programs.threads K
 
   -- a command reaches the later ones of its thread
-  pub reaches-on : (g : ℕ → ℕ) (n x : ℕ) → x + n < rows rowsOf → threadOf lengths x ≡ threadOf lengths (x + n) → Reaches P g x (x + n)
+  pub reaches-on : (g : ℕ → ℕ) (n x : ℕ) → x + n < rows table → threadOf lengths x ≡ threadOf lengths (x + n) → Reaches P g x (x + n)
   reaches-on g zero x l e = subst (Reaches P g x) (omega arith) here
   reaches-on g (suc n) x l e =
       let t = threadOf lengths x in
@@ -59,9 +59,9 @@ module _ {rowsOf lengths : List ℕ} (K : Keeps rowsOf lengths) where
 
   -- ---- agreement
 
-  pub agree-from : claims.Agree P H → Agree rowsOf lengths
+  pub agree-from : claims.Agree P H → Agree table lengths
   agree-from S =
-      let clean : (τ : List ℕ) → Complete rowsOf lengths τ → Clean rowsOf lengths τ = λ τ c. clean-from K (S (reverse τ) (reverse τ) (complete-to K c) (complete-to K c) .0) in
+      let clean : (τ : List ℕ) → Complete table lengths τ → Clean table lengths τ = λ τ c. clean-from K (S (reverse τ) (reverse τ) (complete-to K c) (complete-to K c) .0) in
       record {
         clean = clean;
         alike =
@@ -70,24 +70,24 @@ module _ {rowsOf lengths : List ℕ} (K : Keeps rowsOf lengths) where
             ∙ sym (generation-is K (clean-through K τ (clean τ cτ .through)) x l);
       }
 
-  pub disagreed : Disagree rowsOf lengths → ¬ Agree rowsOf lengths
+  pub disagreed : Disagree table lengths → ¬ Agree table lengths
   disagreed (unclean τ c n) A = n (A .clean τ c)
   disagreed (unlike σ τ cσ cτ c l n) A = n (A .alike σ τ cσ cτ c l)
 
   -- ---- the order of two commands, where all schedules agree
 
-  module _ (A : Agree rowsOf lengths) (x y : ℕ) (lx : x < rows rowsOf) (ly : y < rows rowsOf) where
-    precedes-is : (σ : List ℕ) → Complete rowsOf lengths σ → Precedes rowsOf lengths x y σ ↔ claims.Precedes P H x y (reverse σ)
+  module _ (A : Agree table lengths) (x y : ℕ) (lx : x < rows table) (ly : y < rows table) where
+    precedes-is : (σ : List ℕ) → Complete table lengths σ → Precedes table lengths x y σ ↔ claims.Precedes P H x y (reverse σ)
     precedes-is σ c = let T = clean-through K σ (A .clean σ c .through) in (precedes-to K σ T x y lx ly, precedes-from K σ T x y lx ly)
 
-    pub order-from : claims.SameOrder P H x y → InOneOrder rowsOf lengths x y
+    pub order-from : claims.SameOrder P H x y → InOneOrder table lengths x y
     order-from S σ τ cσ cτ =
         let (a, b) = precedes-is σ cσ in
         let (c, d) = precedes-is τ cτ in
         let (to, from) = S (reverse σ) (reverse τ) (complete-to K cσ) (complete-to K cτ) in
         (λ p. d (to (a p)), λ p. b (from (c p)))
 
-    pub order-to : InOneOrder rowsOf lengths x y → claims.SameOrder P H x y
+    pub order-to : InOneOrder table lengths x y → claims.SameOrder P H x y
     order-to S σ τ cσ cτ =
         let (a, b) = precedes-is (reverse σ) (complete-from K cσ) in
         let (c, d) = precedes-is (reverse τ) (complete-from K cτ) in

@@ -45,30 +45,30 @@ module _ (commands : List ℕ) (x y : ℕ) (c : conflict commands x y ≡ true) 
       let one = ⊎-elim (right (eqb l write) (eqb k write)) (left (eqb l write) (eqb k write)) (either (eqb k write) (eqb l write) (parts .3)) in
       pair (ltb l arrive) _ (parts .1) (pair (ltb k arrive) _ (parts .0) (pair (eqb (name commands y) (name commands x)) _ same one))
 
-module _ {rowsOf lengths : List ℕ} (K : Keeps rowsOf lengths) (g : ℕ → ℕ)
-    (none : faults rowsOf lengths g (reach (program rowsOf lengths) g) fault.Race ≡ []) where
+module _ {table lengths : List ℕ} (K : Keeps table lengths) (g : ℕ → ℕ)
+    (none : faults table lengths g (reach (program table lengths) g) fault.Race ≡ []) where
   -- where there is no race, one of two conflicting accesses reaches the other
-  upwards : (x y : ℕ) → x < y → y < rows rowsOf → conflict rowsOf x y ≡ true → Reaches (program rowsOf lengths) g x y ⊎ Reaches (program rowsOf lengths) g y x
+  upwards : (x y : ℕ) → x < y → y < rows table → conflict table x y ≡ true → Reaches (program table lengths) g x y ⊎ Reaches (program table lengths) g y x
   upwards x y l ly c =
-      let lx : x < rows rowsOf = omega arith in
-      let (a, _) = decides (program rowsOf lengths) g x y lx ly in
-      let (b, _) = decides (program rowsOf lengths) g y x ly lx in
+      let lx : x < rows table = omega arith in
+      let (a, _) = decides (program table lengths) g x y lx ly in
+      let (b, _) = decides (program table lengths) g y x ly lx in
       by-cases (ℕ-discrete (threadOf lengths x) (threadOf lengths y))
       (λ (e : threadOf lengths x ≡ threadOf lengths y).
       let n : x + (y - x) ≡ y = omega arith in
-      inl (subst (Reaches (program rowsOf lengths) g x) n (reaches-on K g (y - x) x (omega arith) (e ∙ ap (threadOf lengths) (sym n)))))
+      inl (subst (Reaches (program table lengths) g x) n (reaches-on K g (y - x) x (omega arith) (e ∙ ap (threadOf lengths) (sym n)))))
       (λ (ne : threadOf lengths x ≢ threadOf lengths y).
-      ⊎-elim (λ (e : reach (program rowsOf lengths) g x y ≡ true). inl (a e))
-      (λ (e : reach (program rowsOf lengths) g x y ≡ false).
-      ⊎-elim (λ (f : reach (program rowsOf lengths) g y x ≡ true). inr (b f))
-      (λ (f : reach (program rowsOf lengths) g y x ≡ false). clashing
-      (race-is rowsOf lengths g x y lx ly .1 (l, c, ne, (λ r. clashing (decides (program rowsOf lengths) g x y lx ly .1 r) e), (λ r. clashing (decides (program rowsOf lengths) g y x ly lx .1 r) f)))
-      (no-faults rowsOf lengths g _ fault.Race none x y lx ly))
-      (split (reach (program rowsOf lengths) g y x)))
-      (split (reach (program rowsOf lengths) g x y)))
+      ⊎-elim (λ (e : reach (program table lengths) g x y ≡ true). inl (a e))
+      (λ (e : reach (program table lengths) g x y ≡ false).
+      ⊎-elim (λ (f : reach (program table lengths) g y x ≡ true). inr (b f))
+      (λ (f : reach (program table lengths) g y x ≡ false). clashing
+      (race-is table lengths g x y lx ly .1 (l, c, ne, (λ r. clashing (decides (program table lengths) g x y lx ly .1 r) e), (λ r. clashing (decides (program table lengths) g y x ly lx .1 r) f)))
+      (no-faults table lengths g _ fault.Race none x y lx ly))
+      (split (reach (program table lengths) g y x)))
+      (split (reach (program table lengths) g x y)))
 
-  pub reaches-either : (x y : ℕ) → x < rows rowsOf → y < rows rowsOf → x ≢ y → conflict rowsOf x y ≡ true
-      → Reaches (program rowsOf lengths) g x y ⊎ Reaches (program rowsOf lengths) g y x
+  pub reaches-either : (x y : ℕ) → x < rows table → y < rows table → x ≢ y → conflict table x y ≡ true
+      → Reaches (program table lengths) g x y ⊎ Reaches (program table lengths) g y x
   reaches-either x y lx ly ne c =
       by-cases (decLt x y) (λ (l : x < y). upwards x y l ly c)
-      (λ (n : ¬ (x < y)). ⊎-elim inr inl (upwards y x (omega arith) lx (turned rowsOf x y c)))
+      (λ (n : ¬ (x < y)). ⊎-elim inr inl (upwards y x (omega arith) lx (turned table x y c)))

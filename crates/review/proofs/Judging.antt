@@ -46,19 +46,19 @@ use Rattle.review.proofs.Agreements.{reuse-same, reaches-same, agree-fr
 use Rattle.review.proofs.Pairs.{reuse-is, race-is, no-faults, some-fault}
 use Rattle.review.proofs.Conflicts.{accesses, reaches-either}
 
-module _ {rowsOf lengths : List ℕ} (K : Keeps rowsOf lengths) (σ : List ℕ) where
+module _ {table lengths : List ℕ} (K : Keeps table lengths) (σ : List ℕ) where
   abbrev P : Program
-  P = program rowsOf lengths
+  P = program table lengths
 
-  abbrev H : threads.Threads (program rowsOf lengths)
+  abbrev H : threads.Threads (program table lengths)
   H = programs.threads K
 
   abbrev r : Replayed
-  r = played rowsOf lengths σ
+  r = played table lengths σ
 
   -- ---- where the offered schedule is not legal and complete, or the schedules do not agree
 
-  judges-none : (n : ℕ) → ¬ (Complete rowsOf lengths σ × Agree rowsOf lengths) → n ≢ 0 → n ≢ 11 → (7 ≤ n → n ≤ 10 → Disagree rowsOf lengths) → Judges rowsOf lengths σ n
+  judges-none : (n : ℕ) → ¬ (Complete table lengths σ × Agree table lengths) → n ≢ 0 → n ≢ 11 → (7 ≤ n → n ≤ 10 → Disagree table lengths) → Judges table lengths σ n
   judges-none n nay a b d =
       record {
         agreement = (⊎-elim (λ e. absurd (a e)) (λ e. absurd (b e)), λ p. absurd (nay p));
@@ -66,34 +66,34 @@ module _ {rowsOf lengths : List ℕ} (K : Keeps rowsOf lengths) (σ : List ℕ) 
         disagreement = d;
       }
 
-  judges-incomplete : (n : ℕ) → ¬ Complete rowsOf lengths σ → n ≡ 5 ⊎ n ≡ 6 → Judges rowsOf lengths σ n
+  judges-incomplete : (n : ℕ) → ¬ Complete table lengths σ → n ≡ 5 ⊎ n ≡ 6 → Judges table lengths σ n
   judges-incomplete n nay (inl e) = judges-none n (λ p. nay (p .0)) (λ z. omega arith) (λ z. omega arith) (λ l m. absurd (omega arith))
   judges-incomplete n nay (inr e) = judges-none n (λ p. nay (p .0)) (λ z. omega arith) (λ z. omega arith) (λ l m. absurd (omega arith))
 
-  judges-disagree : (n : ℕ) → Disagree rowsOf lengths → 7 ≤ n → n ≤ 10 → Judges rowsOf lengths σ n
+  judges-disagree : (n : ℕ) → Disagree table lengths → 7 ≤ n → n ≤ 10 → Judges table lengths σ n
   judges-disagree n d l m = judges-none n (λ p. disagreed K d (p .1)) (λ z. omega arith) (λ z. omega arith) (λ _ _. d)
 
   -- a schedule that ends at a mismatch is complete and not clean
-  shows-mismatch : {υ : List ℕ} {t : ℕ} → threads.Legal P H υ → threads.Steps P H υ t → machine.Mismatch P (threads.after P H υ) (threads.at P H υ t) → Disagree rowsOf lengths
+  shows-mismatch : {υ : List ℕ} {t : ℕ} → threads.Legal P H υ → threads.Steps P H υ t → machine.Mismatch P (threads.after P H υ) (threads.at P H υ t) → Disagree table lengths
   shows-mismatch {υ} {t} L st m =
       unclean (reverse (t ∷ υ)) (complete-from K (threads.mismatched L st m))
       (λ D. not-matching m (subst (threads.Clean P H) (reverse-reverse (t ∷ υ)) (clean-to K D) .legal .2))
 
   -- ---- a clean schedule
 
-  module _ (C : Clean rowsOf lengths σ) where
+  module _ (C : Clean table lengths σ) where
     abbrev g : ℕ → ℕ
-    g = generations rowsOf lengths σ
+    g = generations table lengths σ
 
     T : Through K σ
     T = clean-through K σ (C .through)
 
-    same : (c : ℕ) → c < rows rowsOf → g c ≡ threads.gens P H (reverse σ) c
+    same : (c : ℕ) → c < rows table → g c ≡ threads.gens P H (reverse σ) c
     same c l = generation-is K T c l
 
     -- a schedule that shows a reuse fault to be real
-    shows : {τ : List ℕ} → threads.Complete P H τ → (¬ threads.Clean P H τ) ⊎ ((x : ℕ) × (x < rows rowsOf) × (threads.gens P H τ x ≢ threads.gens P H (reverse σ) x))
-        → Disagree rowsOf lengths
+    shows : {τ : List ℕ} → threads.Complete P H τ → (¬ threads.Clean P H τ) ⊎ ((x : ℕ) × (x < rows table) × (threads.gens P H τ x ≢ threads.gens P H (reverse σ) x))
+        → Disagree table lengths
     shows {τ} c (inl n) = unclean (reverse τ) (complete-from K c) (λ D. n (subst (threads.Clean P H) (reverse-reverse τ) (clean-to K D)))
     shows {τ} (threads.stopped L stop) (inr (x, l, n)) =
         let c = complete-from K (threads.stopped L stop) in
@@ -102,13 +102,13 @@ module _ {rowsOf lengths : List ℕ} (K : Keeps rowsOf lengths) (σ : List ℕ) 
         (λ e. n (ap (λ (l : List ℕ). threads.gens P H l x) (sym (reverse-reverse τ)) ∙ sym (generation-is K R x l) ∙ e ∙ same x l))
     shows (threads.mismatched L st m) (inr _) = shows-mismatch L st m
 
-    judges-reuse : (c₁ c₂ : ℕ) → Reuse P g c₁ c₂ → Judges rowsOf lengths σ 10
+    judges-reuse : (c₁ c₂ : ℕ) → Reuse P g c₁ c₂ → Judges table lengths σ 10
     judges-reuse c₁ c₂ R =
         let (τ, c, off) = real (programs.lawful K) H (reverse σ) (clean-to K C) c₁ c₂ (reuse-same P same R) in
         judges-disagree 10 (shows c off) (omega arith) (omega arith)
 
     -- no reuse fault
-    module _ (none : faults rowsOf lengths g (reach P g) fault.Reuse ≡ []) where
+    module _ (none : faults table lengths g (reach P g) fault.Reuse ≡ []) where
       settled : claims.Settled P H (reverse σ)
       settled =
           record {
@@ -117,29 +117,29 @@ module _ {rowsOf lengths : List ℕ} (K : Keeps rowsOf lengths) (σ : List ℕ) 
                 ⊎-elim
                 (λ w.
                 let R = reuse-same P (λ c l. sym (same c l)) (w .2) in
-                clashing (reuse-is rowsOf lengths g K (w .0) (w .1) (R .succeeds .low₁) (R .succeeds .low₂) .1 R)
-                (no-faults rowsOf lengths g (reach P g) fault.Reuse none (w .1) (w .0) (R .succeeds .low₂) (R .succeeds .low₁)))
+                clashing (reuse-is table lengths g K (w .0) (w .1) (R .succeeds .low₁) (R .succeeds .low₂) .1 R)
+                (no-faults table lengths g (reach P g) fault.Reuse none (w .1) (w .0) (R .succeeds .low₂) (R .succeeds .low₁)))
                 (λ N. N)
                 (decided P (threads.gens P H (reverse σ)));
           }
 
-      agree : Agree rowsOf lengths
+      agree : Agree table lengths
       agree = agree-from K (agreement (programs.lawful K) H (reverse σ) (clean-to K C) .1 (settled .none))
 
       -- two accesses stand in the same order in all schedules exactly when one reaches the other
-      ordered : (x y : ℕ) → x < rows rowsOf → y < rows rowsOf → x ≢ y → conflict rowsOf x y ≡ true
+      ordered : (x y : ℕ) → x < rows table → y < rows table → x ≢ y → conflict table x y ≡ true
           → claims.SameOrder P H x y ↔ (Reaches P g x y ⊎ Reaches P g y x)
       ordered x y lx ly ne c =
-          let (ax, ay) = accesses rowsOf x y c in
+          let (ax, ay) = accesses table x y c in
           let (to, from) = one-order (programs.lawful K) H (reverse σ) settled x y lx ly ax ay ne in
-          let back : (c : ℕ) → c < rows rowsOf → threads.gens P H (reverse σ) c ≡ g c = λ c l. sym (same c l) in (
+          let back : (c : ℕ) → c < rows table → threads.gens P H (reverse σ) c ≡ g c = λ c l. sym (same c l) in (
             (λ s. ⊎-elim (λ r. inl (reaches-same P back r)) (λ r. inr (reaches-same P back r)) (to s)),
             (λ e. from (⊎-elim (λ r. inl (reaches-same P same r)) (λ r. inr (reaches-same P same r)) e)),
           )
 
-      judges-race : (x y : ℕ) → x < rows rowsOf → y < rows rowsOf → race rowsOf lengths (reach P g) x y ≡ true → Judges rowsOf lengths σ 11
+      judges-race : (x y : ℕ) → x < rows table → y < rows table → race table lengths (reach P g) x y ≡ true → Judges table lengths σ 11
       judges-race x y lx ly e =
-          let (l, c, _, a, b) = race-is rowsOf lengths g x y lx ly .0 e in
+          let (l, c, _, a, b) = race-is table lengths g x y lx ly .0 e in
           let ne : x ≢ y = λ q. omega arith in
           record {
             agreement = ((λ _. (stopped (C .through) (C .stops), agree)), λ _. inr refl);
@@ -150,7 +150,7 @@ module _ {rowsOf lengths : List ℕ} (K : Keeps rowsOf lengths) (σ : List ℕ) 
             disagreement = λ l m. absurd (omega arith);
           }
 
-      judges-clear : faults rowsOf lengths g (reach P g) fault.Race ≡ [] → Judges rowsOf lengths σ 0
+      judges-clear : faults table lengths g (reach P g) fault.Race ≡ [] → Judges table lengths σ 0
       judges-clear no-race =
           record {
             agreement = ((λ _. (stopped (C .through) (C .stops), agree)), λ _. inl refl);
@@ -166,35 +166,35 @@ module _ {rowsOf lengths : List ℕ} (K : Keeps rowsOf lengths) (σ : List ℕ) 
           }
 
     -- by the faults that are found
-    judges-clean : Judges rowsOf lengths σ (faultTold rowsOf lengths g (reach P g) .number)
-    judges-clean = by (faults rowsOf lengths g (reach P g) fault.Reuse) (faults rowsOf lengths g (reach P g) fault.Race) refl refl
+    judges-clean : Judges table lengths σ (faultTold table lengths g (reach P g) .number)
+    judges-clean = by (faults table lengths g (reach P g) fault.Reuse) (faults table lengths g (reach P g) fault.Race) refl refl
       where
-        by : (ps qs : List Pair) → faults rowsOf lengths g (reach P g) fault.Reuse ≡ ps → faults rowsOf lengths g (reach P g) fault.Race ≡ qs
-            → Judges rowsOf lengths σ (firstPair 10 ps (firstPair 11 qs (tell 0 0 0)) .number)
+        by : (ps qs : List Pair) → faults table lengths g (reach P g) fault.Reuse ≡ ps → faults table lengths g (reach P g) fault.Race ≡ qs
+            → Judges table lengths σ (firstPair 10 ps (firstPair 11 qs (tell 0 0 0)) .number)
         by (p ∷ ps) qs e f =
-            let (c₂, c₁, l₂, l₁, h, _) = some-fault rowsOf lengths g (reach P g) fault.Reuse e in
-            judges-reuse c₁ c₂ (reuse-is rowsOf lengths g K c₁ c₂ l₁ l₂ .0 h)
+            let (c₂, c₁, l₂, l₁, h, _) = some-fault table lengths g (reach P g) fault.Reuse e in
+            judges-reuse c₁ c₂ (reuse-is table lengths g K c₁ c₂ l₁ l₂ .0 h)
         by [] (q ∷ qs) e f =
-            let (x, y, lx, ly, h, _) = some-fault rowsOf lengths g (reach P g) fault.Race f in
+            let (x, y, lx, ly, h, _) = some-fault table lengths g (reach P g) fault.Race f in
             judges-race e x y lx ly h
         by [] [] e f = judges-clear e f
 
   -- ---- the offered schedule
 
   abbrev s : Replay
-  s = played rowsOf lengths σ .state
+  s = played table lengths σ .state
 
   -- the verdict, of tables and rooms that pass refusals 1 to 4
   abbrev pub told : Told
-  told = orElse (judged lengths r) (faultTold rowsOf lengths (generations rowsOf lengths σ) (reaches rowsOf lengths σ))
+  told = orElse (judged lengths r) (faultTold table lengths (generations table lengths σ) (reaches table lengths σ))
 
-  not-complete : (v : Verdict) → r .verdict ≡ v → numbered v .number ≢ 0 → numbered v .number ≢ 7 → ¬ Complete rowsOf lengths σ
+  not-complete : (v : Verdict) → r .verdict ≡ v → numbered v .number ≢ 0 → numbered v .number ≢ 7 → ¬ Complete table lengths σ
   not-complete v e a b (stopped c _) = unlike (sym e ∙ c) a
   not-complete v e a b (mismatched c _) = unlike (sym e ∙ c) b
 
   -- all steps ran: it ended by 6, 8, 9, or clean
   module _ (c : r .verdict ≡ verdict.Clean) where
-    stops : ltb (lowestAllowed lengths s) (length lengths) ≡ false → Stops rowsOf lengths σ
+    stops : ltb (lowestAllowed lengths s) (length lengths) ≡ false → Stops table lengths σ
     unfolding allowed
     stops e t =
         by-cases (decLt t (length lengths)) (λ (l : t < length lengths). lowest-miss (allowed lengths s) (length lengths) e t l)
@@ -202,13 +202,13 @@ module _ {rowsOf lengths : List ℕ} (K : Keeps rowsOf lengths) (σ : List ℕ) 
 
     judges-through : (a b d : Bool) → ltb (lowestAllowed lengths s) (length lengths) ≡ a → ltb (lowestBlocked lengths s) (length lengths) ≡ b
         → ltb (lowestSet s) barriers ≡ d
-        → Judges rowsOf lengths σ
+        → Judges table lengths σ
         (orElse (cond a (tell 6 (r .steps) 0) (cond b (tell 8 (lastRun lengths s (lowestBlocked lengths s)) 0) (cond d (tell 9 (lowestSet s) 0) (tell 0 0 0))))
-        (faultTold rowsOf lengths (generations rowsOf lengths σ) (reaches rowsOf lengths σ)) .number)
+        (faultTold table lengths (generations table lengths σ) (reaches table lengths σ)) .number)
     judges-through true b d ea eb ed =
         judges-incomplete 6 (λ C. incomplete C (lowest-hit (allowed lengths s) (length lengths) ea .1)) (inr refl)
       where
-        incomplete : Complete rowsOf lengths σ → allowed lengths s (lowestAllowed lengths s) ≡ true → ⊥
+        incomplete : Complete table lengths σ → allowed lengths s (lowestAllowed lengths s) ≡ true → ⊥
         incomplete (stopped _ stop) h = clashing h (stop (lowestAllowed lengths s))
         incomplete (mismatched v _) h = unlike (sym c ∙ v) (λ z. omega arith)
     judges-through false true d ea eb ed =
@@ -226,11 +226,11 @@ module _ {rowsOf lengths : List ℕ} (K : Keeps rowsOf lengths) (σ : List ℕ) 
           unset = lowest-miss (barrierSet s) barriers ed;
         })
 
-  pub judges : Judges rowsOf lengths σ (told .number)
+  pub judges : Judges table lengths σ (told .number)
   unfolding judged ended
   judges = by (plays-all K σ)
     where
-      by : Ends K σ [] r 0 → Judges rowsOf lengths σ (told .number)
+      by : Ends K σ [] r 0 → Judges table lengths σ (told .number)
       by (through S G v e) = rw v (judges-through v _ _ _ refl refl refl)
       by (refused-at e nay v) = rw v (judges-incomplete 5 (not-complete _ v (λ z. omega arith) (λ z. omega arith)) (inl refl))
       by (mismatched-at e st m v) = rw v (judges-disagree 7 (shows-mismatch (e .stands .legal) st m) (omega arith) (omega arith))

@@ -31,17 +31,17 @@ use Rattle.review.proofs.Programs.{threads}
 use Rattle.review.proofs.Ties.{Stands, stands-start, allowed-steps, steps-allowed, command-row}
 use Rattle.review.proofs.Tied.{Outcome, ran, mismatched, outcome, not-allowed}
 
-module _ {rowsOf lengths : List ℕ} (K : Keeps rowsOf lengths) where
+module _ {table lengths : List ℕ} (K : Keeps table lengths) where
   abbrev P : Program
-  P = program rowsOf lengths
+  P = program table lengths
 
-  abbrev H : Threads (program rowsOf lengths)
+  abbrev H : Threads (program table lengths)
   H = threads K
 
   -- the numbers of g are the generations of the commands
   pub record Gens (υ g : List ℕ) : Type 0 where
     pub long : length g ≡ mostRows
-    pub same : (c : ℕ) → c < rows rowsOf → getD g c 0 ≡ gens P H υ c
+    pub same : (c : ℕ) → c < rows table → getD g c 0 ≡ gens P H υ c
 
   -- An entry t of σ, after the entries ρ, at which a replay that has come to υ ends: its state stands for the machine's there.
   pub record Entry (σ υ : List ℕ) (r : Replayed) (n : ℕ) : Type 0 where
@@ -64,7 +64,7 @@ module _ {rowsOf lengths : List ℕ} (K : Keeps rowsOf lengths) where
   unfolding commands machine.state
   gens-start = record { long = length-replicate mostRows 0; same = λ c l. getD-replicate mostRows c 0 0 (omega (arith, K .few-rows)) }
 
-  gens-more : (υ : List ℕ) (t : ℕ) (g : List ℕ) → Gens υ g → at P H υ t < rows rowsOf → Gens (t ∷ υ) (set g (at P H υ t) (gens P H (t ∷ υ) (at P H υ t)))
+  gens-more : (υ : List ℕ) (t : ℕ) (g : List ℕ) → Gens υ g → at P H υ t < rows table → Gens (t ∷ υ) (set g (at P H υ t) (gens P H (t ∷ υ) (at P H υ t)))
   unfolding commands machine.state
   gens-more υ t g G l =
       let c = at P H υ t in
@@ -93,25 +93,25 @@ module _ {rowsOf lengths : List ℕ} (K : Keeps rowsOf lengths) where
 
   -- an entry, where the entries after it are known to end
   plays-entry : (t : ℕ) (σ υ : List ℕ) (s : Replay) (g : List ℕ) (n : ℕ) → Stands K υ s → Gens υ g
-      → ((s′ : Replay) (g′ : List ℕ) → Stands K (t ∷ υ) s′ → Gens (t ∷ υ) g′ → Ends σ (t ∷ υ) (playing rowsOf lengths σ s′ g′ (n + 1)) (n + 1))
-      → Ends (t ∷ σ) υ (playing rowsOf lengths (t ∷ σ) s g n) n
+      → ((s′ : Replay) (g′ : List ℕ) → Stands K (t ∷ υ) s′ → Gens (t ∷ υ) g′ → Ends σ (t ∷ υ) (playing table lengths σ s′ g′ (n + 1)) (n + 1))
+      → Ends (t ∷ σ) υ (playing table lengths (t ∷ σ) s g n) n
   unfolding playing here
   plays-entry t σ υ s g n S G rest =
       ⊎-elim (λ e. let st = allowed-steps K S t e in by st (outcome K S t st))
       (λ f. rw (not-allowed K s t f) (refused-at (here t σ υ _ n S refl) (λ st. clashing (steps-allowed K S t st) f) refl))
       (split (allowed lengths s t))
     where
-      by : Steps P H υ t → Outcome K υ s t → Ends (t ∷ σ) υ (playing rowsOf lengths (t ∷ σ) s g n) n
-      by st (ran q m S′) = rw q (later (rest (stepped rowsOf lengths s t .after) _ S′ (gens-more υ t g G (command-row K S t st))))
+      by : Steps P H υ t → Outcome K υ s t → Ends (t ∷ σ) υ (playing table lengths (t ∷ σ) s g n) n
+      by st (ran q m S′) = rw q (later (rest (stepped table lengths s t .after) _ S′ (gens-more υ t g G (command-row K S t st))))
       by st (mismatched q k m) = rw q (mismatched-at (here t σ υ _ n (rw k S) refl) st m refl)
 
-  plays : (σ υ : List ℕ) (s : Replay) (g : List ℕ) (n : ℕ) → Stands K υ s → Gens υ g → Ends σ υ (playing rowsOf lengths σ s g n) n
+  plays : (σ υ : List ℕ) (s : Replay) (g : List ℕ) (n : ℕ) → Stands K υ s → Gens υ g → Ends σ υ (playing table lengths σ s g n) n
   unfolding playing
   plays [] υ s g n S G = through S G refl (omega arith)
   plays (t ∷ σ) υ s g n S G = plays-entry t σ υ s g n S G (λ s′ g′ S′ G′. plays σ (t ∷ υ) s′ g′ (n + 1) S′ G′)
 
   -- how the replay of a schedule ends
-  pub plays-all : (σ : List ℕ) → Ends σ [] (played rowsOf lengths σ) 0
+  pub plays-all : (σ : List ℕ) → Ends σ [] (played table lengths σ) 0
   unfolding played
   plays-all σ = plays σ [] start _ 0 (stands-start K) gens-start
 
@@ -122,10 +122,10 @@ module _ {rowsOf lengths : List ℕ} (K : Keeps rowsOf lengths) where
   legal-part (t ∷ ρ) υ L = legal-part ρ (t ∷ υ) L .0
 
   pub record Through (σ : List ℕ) : Type 0 where
-    pub stands : Stands K (reverse σ) (played rowsOf lengths σ .state)
-    pub gens : Gens (reverse σ) (played rowsOf lengths σ .generations)
-    pub verdict : played rowsOf lengths σ .verdict ≡ verdict.Clean
-    pub steps : played rowsOf lengths σ .steps ≡ length σ
+    pub stands : Stands K (reverse σ) (played table lengths σ .state)
+    pub gens : Gens (reverse σ) (played table lengths σ .generations)
+    pub verdict : played table lengths σ .verdict ≡ verdict.Clean
+    pub steps : played table lengths σ .steps ≡ length σ
 
   -- a legal schedule has an allowed, matching step at each entry
   legal-entry : {σ : List ℕ} {r : Replayed} (e : Entry σ [] r 0) → Legal P H (reverse σ)
@@ -138,15 +138,15 @@ module _ {rowsOf lengths : List ℕ} (K : Keeps rowsOf lengths) where
   pub legal-through : (σ : List ℕ) → Legal P H (reverse σ) → Through σ
   legal-through σ L = by (plays-all σ)
     where
-      by : Ends σ [] (played rowsOf lengths σ) 0 → Through σ
+      by : Ends σ [] (played table lengths σ) 0 → Through σ
       by (through S G v e) = record { stands = S; gens = G; verdict = v; steps = omega arith }
       by (refused-at e nay v) = absurd (nay (legal-entry e L .0))
       by (mismatched-at e st m v) = absurd (not-matching m (legal-entry e L .1))
 
-  pub clean-through : (σ : List ℕ) → played rowsOf lengths σ .verdict ≡ verdict.Clean → Through σ
+  pub clean-through : (σ : List ℕ) → played table lengths σ .verdict ≡ verdict.Clean → Through σ
   clean-through σ c = by (plays-all σ)
     where
-      by : Ends σ [] (played rowsOf lengths σ) 0 → Through σ
+      by : Ends σ [] (played table lengths σ) 0 → Through σ
       by (through S G v e) = record { stands = S; gens = G; verdict = v; steps = omega arith }
       by (refused-at e nay v) = absurd (let z : 0 ≡ 5 = ap (λ (w : Verdict). numbered w .number) (sym c ∙ v) in omega arith)
       by (mismatched-at e st m v) = absurd (let z : 0 ≡ 7 = ap (λ (w : Verdict). numbered w .number) (sym c ∙ v) in omega arith)

@@ -42,11 +42,11 @@ front {τ} σ r =
     let e : σ ≡ reverse τ ++ R .rest = sym (reverse-reverse σ) ∙ ap reverse (R .is) ∙ reverseAux-reverseAux-nil (R .rest) τ ∙ reverseAux-eq τ (R .rest) in
     ap (take (length (reverse τ))) e ∙ take-append-seam (reverse τ) (R .rest)
 
-module _ {rowsOf lengths : List ℕ} (K : Keeps rowsOf lengths) where
+module _ {table lengths : List ℕ} (K : Keeps table lengths) where
   abbrev P : Program
-  P = program rowsOf lengths
+  P = program table lengths
 
-  abbrev H : Threads (program rowsOf lengths)
+  abbrev H : Threads (program table lengths)
   H = threads K
 
   -- an earlier part of a schedule's log is the log of an earlier part of the schedule
@@ -66,8 +66,8 @@ module _ {rowsOf lengths : List ℕ} (K : Keeps rowsOf lengths) where
   part-through σ k T =
       legal-through K (take k σ) (legal-part K (drop k σ) _ (subst (Legal P H) (ap reverse (sym (take-append-drop k σ)) ∙ reverseAux-append (take k σ) (drop k σ) []) (T .stands .legal)))
 
-  module _ (σ : List ℕ) (T : Through K σ) (x y : ℕ) (lx : x < rows rowsOf) (ly : y < rows rowsOf) where
-    pub precedes-to : Precedes rowsOf lengths x y σ → Before P x y (commands P H (reverse σ))
+  module _ (σ : List ℕ) (T : Through K σ) (x y : ℕ) (lx : x < rows table) (ly : y < rows table) where
+    pub precedes-to : Precedes table lengths x y σ → Before P x y (commands P H (reverse σ))
     precedes-to p =
         let ρ = take (p .part) σ in
         let S = part-through σ (p .part) T .stands in
@@ -80,7 +80,7 @@ module _ {rowsOf lengths : List ℕ} (K : Keeps rowsOf lengths) where
           at-last = sym (has-run K (T .stands) y ly) ∙ p .at-last;
         }
 
-    pub precedes-from : Before P x y (commands P H (reverse σ)) → Precedes rowsOf lengths x y σ
+    pub precedes-from : Before P x y (commands P H (reverse σ)) → Precedes table lengths x y σ
     precedes-from b =
         let q = part-of (b .goes-on) (reverse σ) refl in
         let k = length (reverse (q .sooner)) in

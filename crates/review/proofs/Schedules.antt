@@ -52,26 +52,26 @@ module _ (commands lengths : List ℕ) where
       by-step (stepped commands lengths s t .did) (stepped commands lengths s t .after) g n _ _
       (λ r. playing commands lengths τ (r .state) (r .generations) (r .steps)) (λ g′ c′. goes-on ρ τ _ g′ (n + 1) c′) c
 
-module _ {rowsOf lengths : List ℕ} (K : Keeps rowsOf lengths) where
+module _ {table lengths : List ℕ} (K : Keeps table lengths) where
   abbrev P : machine.Program
-  P = program rowsOf lengths
+  P = program table lengths
 
-  abbrev H : threads.Threads (program rowsOf lengths)
+  abbrev H : threads.Threads (program table lengths)
   H = programs.threads K
 
   -- ---- complete
 
-  stops-to : {σ : List ℕ} → Through K σ → Stops rowsOf lengths σ → threads.Stops P H (reverse σ)
+  stops-to : {σ : List ℕ} → Through K σ → Stops table lengths σ → threads.Stops P H (reverse σ)
   stops-to T stop t st = clashing (steps-allowed K (T .stands) t st) (stop t)
 
-  stops-from : {σ : List ℕ} → Through K σ → threads.Stops P H (reverse σ) → Stops rowsOf lengths σ
+  stops-from : {σ : List ℕ} → Through K σ → threads.Stops P H (reverse σ) → Stops table lengths σ
   stops-from T stop t = isnt _ (λ e. stop t (allowed-steps K (T .stands) t e))
 
-  pub complete-to : {σ : List ℕ} → Complete rowsOf lengths σ → threads.Complete P H (reverse σ)
+  pub complete-to : {σ : List ℕ} → Complete table lengths σ → threads.Complete P H (reverse σ)
   complete-to {σ} (stopped c stop) = let T = clean-through K σ c in threads.stopped (T .stands .legal) (stops-to T stop)
   complete-to {σ} (mismatched {c} v len) = by (plays-all K σ)
     where
-      by : Ends K σ [] (played rowsOf lengths σ) 0 → threads.Complete P H (reverse σ)
+      by : Ends K σ [] (played table lengths σ) 0 → threads.Complete P H (reverse σ)
       by (through S G w e) = unlike (sym v ∙ w) (λ z. omega arith)
       by (refused-at e nay w) = unlike (sym v ∙ w) (λ z. omega arith)
       by (mismatched-at e st m w) =
@@ -84,37 +84,37 @@ module _ {rowsOf lengths : List ℕ} (K : Keeps rowsOf lengths) where
           no-rest (x ∷ l) h = absurd (omega arith)
 
   -- one more entry, after entries that go through, which mismatches
-  last-entry : (ρ : List ℕ) (t : ℕ) (d : Did) → Through K ρ → stepped rowsOf lengths (played rowsOf lengths ρ .state) t .did ≡ d
-      → played rowsOf lengths (ρ ++ t ∷ [])
-      ≡ goingOn d (stepped rowsOf lengths (played rowsOf lengths ρ .state) t .after) (played rowsOf lengths ρ .generations) (played rowsOf lengths ρ .steps)
-      (λ g. playing rowsOf lengths [] (stepped rowsOf lengths (played rowsOf lengths ρ .state) t .after) g (played rowsOf lengths ρ .steps + 1))
+  last-entry : (ρ : List ℕ) (t : ℕ) (d : Did) → Through K ρ → stepped table lengths (played table lengths ρ .state) t .did ≡ d
+      → played table lengths (ρ ++ t ∷ [])
+      ≡ goingOn d (stepped table lengths (played table lengths ρ .state) t .after) (played table lengths ρ .generations) (played table lengths ρ .steps)
+      (λ g. playing table lengths [] (stepped table lengths (played table lengths ρ .state) t .after) g (played table lengths ρ .steps + 1))
   unfolding played playing
-  last-entry ρ t d T e = goes-on rowsOf lengths ρ (t ∷ []) _ _ _ (T .verdict) ∙ rw e
+  last-entry ρ t d T e = goes-on table lengths ρ (t ∷ []) _ _ _ (T .verdict) ∙ rw e
 
   mismatch-last : (ρ : List ℕ) (t : ℕ) → Through K ρ → threads.Steps P H (reverse ρ) t
-      → machine.Mismatch P (threads.after P H (reverse ρ)) (threads.at P H (reverse ρ) t) → Complete rowsOf lengths (ρ ++ t ∷ [])
+      → machine.Mismatch P (threads.after P H (reverse ρ)) (threads.at P H (reverse ρ) t) → Complete table lengths (ρ ++ t ∷ [])
   mismatch-last ρ t T st m = by (tied.outcome K (T .stands) t st)
     where
-      by : tied.Outcome K (reverse ρ) (played rowsOf lengths ρ .state) t → Complete rowsOf lengths (ρ ++ t ∷ [])
+      by : tied.Outcome K (reverse ρ) (played table lengths ρ .state) t → Complete table lengths (ρ ++ t ∷ [])
       by (tied.ran q match S) = absurd (not-matching m match)
       by (tied.mismatched q k w) =
           let e = last-entry ρ t _ T q in
           mismatched (ap (λ (r : Replayed). r .verdict) e) (omega (arith, ap (λ (r : Replayed). r .steps) e, T .steps, length-append ρ (t ∷ [])))
 
-  pub complete-from : {υ : List ℕ} → threads.Complete P H υ → Complete rowsOf lengths (reverse υ)
+  pub complete-from : {υ : List ℕ} → threads.Complete P H υ → Complete table lengths (reverse υ)
   complete-from (threads.stopped {υ} L stop) =
       let T = legal-through K (reverse υ) (subst (threads.Legal P H) (sym (reverse-reverse υ)) L) in
       stopped (T .verdict) (stops-from T (subst (threads.Stops P H) (sym (reverse-reverse υ)) stop))
   complete-from (threads.mismatched {υ} {t} L st m) =
       let back = sym (reverse-reverse υ) in
       let T = legal-through K (reverse υ) (subst (threads.Legal P H) back L) in
-      subst (Complete rowsOf lengths) (sym (reverse-cons t υ))
+      subst (Complete table lengths) (sym (reverse-cons t υ))
       (mismatch-last (reverse υ) t T (subst (λ (l : List ℕ). threads.Steps P H l t) back st)
       (subst (λ (l : List ℕ). machine.Mismatch P (threads.after P H l) (threads.at P H l t)) back m))
 
   -- ---- clean
 
-  pub clean-to : {σ : List ℕ} → Clean rowsOf lengths σ → threads.Clean P H (reverse σ)
+  pub clean-to : {σ : List ℕ} → Clean table lengths σ → threads.Clean P H (reverse σ)
   clean-to {σ} C =
       let T = clean-through K σ (C .through) in
       record {
@@ -126,7 +126,7 @@ module _ {rowsOf lengths : List ℕ} (K : Keeps rowsOf lengths) where
             (λ n. no-barrier K (reverse σ) (T .stands .legal) b (omega arith));
       }
 
-  pub clean-from : {σ : List ℕ} → threads.Clean P H (reverse σ) → Clean rowsOf lengths σ
+  pub clean-from : {σ : List ℕ} → threads.Clean P H (reverse σ) → Clean table lengths σ
   clean-from {σ} C =
       let T = legal-through K σ (C .legal) in
       record {
@@ -136,5 +136,5 @@ module _ {rowsOf lengths : List ℕ} (K : Keeps rowsOf lengths) where
         unset = λ b l. unset-is K (T .stands) b l .1 (C .unset b);
       }
 
-  pub generation-is : {σ : List ℕ} → Through K σ → (c : ℕ) → c < rows rowsOf → generation (played rowsOf lengths σ) c ≡ threads.gens P H (reverse σ) c
+  pub generation-is : {σ : List ℕ} → Through K σ → (c : ℕ) → c < rows table → generation (played table lengths σ) c ≡ threads.gens P H (reverse σ) c
   generation-is T c l = T .gens .same c l
