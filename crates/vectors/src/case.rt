@@ -3,12 +3,13 @@ use crate::print::number;
 use crate::print::sheet;
 use crate::print::text;
 use crate::print::verdict;
+use crate::room::least;
 use crate::room::show;
 use crate::room::soil;
 use review::review;
 use review::write_schedule;
 
-// the three rooms are dirtied differently
+// the three rooms are soiled differently
 const RELATION: u32 = 0xDEAD0000;
 
 const GENERATIONS: u32 = 0xBEEF0000;
@@ -55,44 +56,38 @@ pub fn writes(name: &[u8], commands: &[u32], lengths: &[u32], room: &mut [u32]) 
     written.length
 }
 
-// The review of a schedule that stands in the first n places of a room.
-pub fn follow(
-    name: &[u8],
-    commands: &[u32],
-    lengths: &[u32],
-    room: &[u32],
-    n: usize,
-    relation: &mut [u32],
-    generations: &mut [u32],
-) {
-    if n <= room.len() {
-        reviews(name, commands, lengths, &room[0..n], relation, generations);
-    }
-}
-
-// The review of a schedule that is given, in rooms with places to spare.
-pub fn given(name: &[u8], commands: &[u32], lengths: &[u32], schedule: &[u32]) {
+// The review of a schedule that is given, in rooms of the last two sizes.
+pub fn given(name: &[u8], commands: &[u32], lengths: &[u32], schedule: &[u32], sizes: [u32; 5]) {
+    let mut relation = [0u32; 8200];
+    let mut generations = [0u32; 520];
+    let r = least(sizes[3], 8200);
+    let g = least(sizes[4], 520);
     reviews(
         name,
         commands,
         lengths,
         schedule,
-        &mut [0; 20],
-        &mut [0; 18],
+        &mut relation[0..r],
+        &mut generations[0..g],
     );
 }
 
+// The review of a schedule that stands in the first n places of a room.
+fn follow(name: &[u8], commands: &[u32], lengths: &[u32], room: &[u32], n: usize, sizes: [u32; 5]) {
+    if n <= room.len() {
+        given(name, commands, lengths, &room[0..n], sizes);
+    }
+}
+
 // The schedule writer, and the review of what it wrote.
-pub fn alone(name: &[u8], commands: &[u32], lengths: &[u32]) {
-    let mut room = [0u32; 17];
-    let n = writes(name, commands, lengths, &mut room);
-    follow(
-        name,
-        commands,
-        lengths,
-        &room,
-        n,
-        &mut [0; 20],
-        &mut [0; 18],
-    );
+fn turn(name: &[u8], commands: &[u32], lengths: &[u32], room: &mut [u32], sizes: [u32; 5]) {
+    let n = writes(name, commands, lengths, room);
+    follow(name, commands, lengths, room, n, sizes);
+}
+
+// Both, in rooms of the last three sizes.
+pub fn alone(name: &[u8], commands: &[u32], lengths: &[u32], sizes: [u32; 5]) {
+    let mut room = [0u32; 520];
+    let s = least(sizes[2], 520);
+    turn(name, commands, lengths, &mut room[0..s], sizes);
 }

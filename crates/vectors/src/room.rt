@@ -8,6 +8,13 @@ use crate::print::text;
 // a room with more words than this is shown by a sum
 const SHOWN: usize = 40;
 
+pub fn least(size: u32, most: usize) -> usize
+    ensures { λ r. ⌜ r ≤ most ⌝ }
+{
+    let asked = size as usize;
+    if asked < most { asked } else { most }
+}
+
 // The word that stands at a place before its room is lent: other rooms have another dirt.
 fn stain(dirt: u32, place: usize) -> u32 {
     dirt | (place % 65536) as u32
