@@ -1,0 +1,36 @@
+-- `numbers` stays within its text and its room, which keeps its length. Assumes nothing.
+use mathlib.Core.Path.{_≡_}
+use Prim.Native.Nat.{_≤_, _-_}
+use lib.ListN.{length}
+use borrow.Author.Needs.{needs}
+use Rattle.vectors.proofs.cases.numbers.Statement.{statement}
+use Rattle.vectors.proofs.cases.numbers.Tie as tie
+
+abbrev Inv-loop : tie.InvT-loop
+Inv-loop text room₀ n₀ i₀ room n i = (length room ≡ length room₀) × (n ≤ length room₀)
+
+abbrev μ-loop : tie.MeasureT-loop
+μ-loop text room₀ n₀ i₀ room n i = length text - i
+
+pub numbers-spec : {M : Type 1} → statement M
+numbers-spec =
+    tie.close
+    (tie.spec
+    Inv-loop
+    μ-loop
+    (λ c. search needs)
+    (λ c. search needs)
+    (λ c. search needs)
+    (λ c. search needs)
+    (λ c. search needs)
+    (λ c. search needs)
+    (λ c κs. search needs)
+    (λ c. search needs)
+    (λ c. search needs)
+    (λ c κs. search needs)
+    (λ c. search needs)
+    (λ c. search needs)
+    (λ c. search needs)
+    (λ c. search needs)
+    (λ c. search needs)
+    (λ c. search needs))

@@ -1,0 +1,12 @@
+// Runs cases through the review and the schedule writer, and prints a line for each: the verdict, the total, the kept pairs, and what every place of every lent
+// room holds afterwards. Each room is soiled before it is lent, so that what was kept can be told from what was written.
+// The cases are the lines of `stdin`. What is printed is compared with `stdout`, which was worked out from document 01 apart from this repository: it is
+// compared, not proved.
+mod case; // a case: the rooms, the calls, and the lines printed
+mod cases; // the lines of standard input
+mod print; // text, numbers, verdicts, sheets
+mod room; // rooms that are soiled, and looked at
+
+fn main() {
+    cases::run();
+}
