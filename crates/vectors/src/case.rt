@@ -17,7 +17,7 @@ const GENERATIONS: u32 = 0xBEEF0000;
 const SCHEDULE: u32 = 0xFEED0000;
 
 // The review, in the two rooms lent.
-pub fn reviews(
+pub(crate) fn reviews(
     name: &[u8],
     commands: &[u32],
     lengths: &[u32],
@@ -41,7 +41,7 @@ pub fn reviews(
 }
 
 // The schedule writer, in the room lent; and how long its schedule is.
-pub fn writes(name: &[u8], commands: &[u32], lengths: &[u32], room: &mut [u32]) -> usize {
+pub(crate) fn writes(name: &[u8], commands: &[u32], lengths: &[u32], room: &mut [u32]) -> usize {
     soil(room, SCHEDULE);
     let written = write_schedule(commands, lengths, room);
     text(name);
@@ -57,7 +57,13 @@ pub fn writes(name: &[u8], commands: &[u32], lengths: &[u32], room: &mut [u32]) 
 }
 
 // The review of a schedule that is given, in rooms of the last two sizes.
-pub fn given(name: &[u8], commands: &[u32], lengths: &[u32], schedule: &[u32], sizes: [u32; 5]) {
+pub(crate) fn given(
+    name: &[u8],
+    commands: &[u32],
+    lengths: &[u32],
+    schedule: &[u32],
+    sizes: [u32; 5],
+) {
     let mut relation = [0u32; 8200];
     let mut generations = [0u32; 520];
     let r = least(sizes[3], 8200);
@@ -86,7 +92,7 @@ fn turn(name: &[u8], commands: &[u32], lengths: &[u32], room: &mut [u32], sizes:
 }
 
 // Both, in rooms of the last three sizes.
-pub fn alone(name: &[u8], commands: &[u32], lengths: &[u32], sizes: [u32; 5]) {
+pub(crate) fn alone(name: &[u8], commands: &[u32], lengths: &[u32], sizes: [u32; 5]) {
     let mut room = [0u32; 520];
     let s = least(sizes[2], 520);
     turn(name, commands, lengths, &mut room[0..s], sizes);

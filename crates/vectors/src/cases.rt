@@ -142,7 +142,7 @@ fn lines(text: &[u8]) {
     }
 }
 
-pub fn run() {
+pub(crate) fn run() {
     let mut text = io::large_buffer();
     let n = io::read_full(STDIN_FILENO, &mut text);
     lines(&text[..n]);

@@ -5,17 +5,17 @@ use libc::STDOUT_FILENO;
 use review::Sheet;
 use tables::Verdict;
 
-pub fn text(bytes: &[u8]) {
+pub(crate) fn text(bytes: &[u8]) {
     io::write_all(STDOUT_FILENO, bytes);
 }
 
-pub fn number(n: usize) {
+pub(crate) fn number(n: usize) {
     text(b" ");
     io::print_decimal(STDOUT_FILENO, n as u64);
 }
 
 // The first n of the words.
-pub fn numbers(words: &[u32], n: usize)
+pub(crate) fn numbers(words: &[u32], n: usize)
     requires { ⌜ n ≤ length (now words) ⌝ }
 {
     let mut i = 0;
@@ -25,12 +25,12 @@ pub fn numbers(words: &[u32], n: usize)
     }
 }
 
-pub fn word(w: u32) {
+pub(crate) fn word(w: u32) {
     number(w as usize);
 }
 
 // A verdict's number and its two places.
-pub fn verdict(verdict: Verdict) {
+pub(crate) fn verdict(verdict: Verdict) {
     let told = verdict.number();
     word(told.number);
     number(told.place);
@@ -51,7 +51,7 @@ fn pair(counts: bool, first: usize, second: usize) {
 }
 
 // The total, and then all sixteen places: a line shows those that hold a pair and those that should be 0 and are not.
-pub fn sheet(sheet: Sheet) {
+pub(crate) fn sheet(sheet: Sheet) {
     text(b" total");
     number(sheet.total);
     let mut i = 0;

@@ -8,7 +8,7 @@ use crate::print::text;
 // a room with more words than this is shown by a sum
 const SHOWN: usize = 40;
 
-pub fn least(size: u32, most: usize) -> usize
+pub(crate) fn least(size: u32, most: usize) -> usize
     ensures { λ r. ⌜ r ≤ most ⌝ }
 {
     let asked = size as usize;
@@ -20,7 +20,7 @@ fn stain(dirt: u32, place: usize) -> u32 {
     dirt | (place % 65536) as u32
 }
 
-pub fn soil(room: &mut [u32], dirt: u32) {
+pub(crate) fn soil(room: &mut [u32], dirt: u32) {
     let mut i = 0;
     while i < room.len() {
         room[i] = stain(dirt, i);
@@ -64,7 +64,7 @@ fn sum(words: &[u32], n: usize) -> u64
 }
 
 // What a room holds: the words that were written, and how many places after them were kept.
-pub fn show(room: &[u32], dirt: u32) {
+pub(crate) fn show(room: &[u32], dirt: u32) {
     let n = written(room, dirt);
     if n > SHOWN {
         text(b" filled");
