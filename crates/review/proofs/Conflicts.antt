@@ -14,10 +14,10 @@ use Rattle.relation.proofs.Truth.{split, clashing, both, pair, either, left, ri
 use Rattle.schedules.specs.Order.{Reaches, reach}
 use Rattle.schedules.proofs.Theorems.{decides}
 use Rattle.review.specs.declared.faults.Fault.the-variants as fault
-use Rattle.review.specs.Step.{registers}
-use Rattle.review.specs.Order.{program}
+use Rattle.replay.specs.Step.{registers}
+use Rattle.replay.specs.Program.{program}
 use Rattle.review.specs.Faults.{conflict, faults}
-use Rattle.review.proofs.Agreements.{reaches-on}
+use Rattle.replay.proofs.Agreements.{reaches-on}
 use Rattle.review.proofs.Pairs.{race-is, no-faults}
 
 -- four tests that all pass

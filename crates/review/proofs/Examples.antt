@@ -8,10 +8,10 @@ use Rattle.tables.specs.Rules.{rowKeeps, firstBad, checked}
 use Rattle.relation.specs.Chains.{rounds}
 use Rattle.relation.specs.Table.{width}
 use Rattle.schedules.specs.Order.{edge, reach}
-use Rattle.review.specs.State.{start}
-use Rattle.review.specs.Step.{allowed, registering, running, stepped}
-use Rattle.review.specs.Replay.{playing, played}
-use Rattle.review.specs.Ending.{ended}
+use Rattle.replay.specs.State.{start}
+use Rattle.replay.specs.Step.{allowed, registering, running, stepped}
+use Rattle.replay.specs.Replay.{playing, played}
+use Rattle.replay.specs.Ending.{ended}
 use Rattle.review.specs.Sheet.{sheetOf}
 use Rattle.review.specs.Faults.{succeeds, reuse, conflict, race, alongRow, allRows, faults}
 use Rattle.review.specs.Judge.{refused, judged, verdictOf}

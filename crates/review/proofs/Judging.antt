@@ -25,24 +25,24 @@ use Rattle.schedules.specs.Order.{Reaches, Reuse, reach}
 use Rattle.schedules.specs.Claims as claims
 use Rattle.schedules.proofs.Tests.{not-matching}
 use Rattle.schedules.proofs.Theorems.{agreement, one-order, real, decided}
-use Rattle.review.specs.declared.state.Replay.{Replay}
-use Rattle.review.specs.declared.replay.Replayed.{Replayed}
+use Rattle.replay.specs.declared.state.Replay.{Replay}
+use Rattle.replay.specs.declared.replay.Replayed.{Replayed}
 use Rattle.review.specs.declared.sheet.Pair.{Pair}
 use Rattle.review.specs.declared.faults.Fault.the-variants as fault
-use Rattle.review.specs.Step.{allowed}
-use Rattle.review.specs.Ending.{isBlocked, barrierSet, lowestAllowed, lowestBlocked, lowestSet, lastRun, ended}
-use Rattle.review.specs.InOrder.{orElse}
-use Rattle.review.specs.Replay.{played}
-use Rattle.review.specs.Order.{program}
+use Rattle.replay.specs.Step.{allowed}
+use Rattle.replay.specs.Ending.{isBlocked, barrierSet, lowestAllowed, lowestBlocked, lowestSet, lastRun, ended}
+use Rattle.replay.specs.InOrder.{orElse}
+use Rattle.replay.specs.Replay.{played}
+use Rattle.replay.specs.Program.{program}
 use Rattle.review.specs.Faults.{conflict, race, faults}
 use Rattle.review.specs.Judge.{judged, firstPair, faultTold, generations, reaches}
-use Rattle.review.specs.Schedules.{Stops, Complete, stopped, mismatched, Clean, Agree, SameOrder, Disagree, unclean}
-use Rattle.review.specs.Schedules as schedules
+use Rattle.replay.specs.Schedules.{Stops, Complete, stopped, mismatched, Clean, Agree, SameOrder, Disagree, unclean}
+use Rattle.replay.specs.Schedules as schedules
 use Rattle.review.specs.Agreement.{Judges}
-use Rattle.review.proofs.Programs as programs
-use Rattle.review.proofs.Plays.{Ends, through, refused-at, mismatched-at, Through, plays-all, clean-through, legal-through}
-use Rattle.review.proofs.Schedules.{unlike, complete-from, clean-to, generation-is}
-use Rattle.review.proofs.Agreements.{reuse-same, reaches-same, agree-from, disagreed, order-to, order-from}
+use Rattle.replay.proofs.Programs as programs
+use Rattle.replay.proofs.Plays.{Ends, through, refused-at, mismatched-at, Through, plays-all, clean-through, legal-through}
+use Rattle.replay.proofs.Schedules.{unlike, complete-from, clean-to, generation-is}
+use Rattle.replay.proofs.Agreements.{reuse-same, reaches-same, agree-from, disagreed, order-to, order-from}
 use Rattle.review.proofs.Pairs.{reuse-is, race-is, no-faults, some-fault}
 use Rattle.review.proofs.Conflicts.{accesses, reaches-either}
 

@@ -1,30 +1,5 @@
--- Laws, by subject, in an order that can be read.
--- The code's loops and tests: Fronts, Scans, Registering, Steps, Endings.
--- The kept state and the machine of `schedules`: Programs (the tables as a program with threads), Phases and Waits (what kept barriers and waits
--- stand for), Few (how long a schedule is), Ties (the two states beside each other), Tied (one step of both), Standing and Replaying (what loops need).
--- Whole schedules: Plays (a replay), Schedules (legal, complete and clean are the same for both), Writing (the schedule writer), Precede (what stands
--- before what), Agreements.
--- Verdicts, rooms, faults and demand 3: Refusals, Rooms (what goes into the two rooms), Sheets, Looks (what a search tells), Pairs (which pairs, in what order), Conflicts, Judging,
--- Reviews (the contract), Unique (it has one answer).
--- By itself: Examples (document 01's starred ones).
-pub mod Fronts
-pub mod Scans
-pub mod Registering
-pub mod Steps
-pub mod Endings
-pub mod Programs
-pub mod Phases
-pub mod Waits
-pub mod Few
-pub mod Ties
-pub mod Tied
-pub mod Standing
-pub mod Replaying
-pub mod Plays
-pub mod Schedules
-pub mod Writing
-pub mod Precede
-pub mod Agreements
+-- Laws, by subject, in an order that can be read: Refusals (1 to 4), Rooms (what goes into the two rooms), Sheets, Looks (what a search tells), Pairs (which
+-- pairs, in what order), Conflicts, Judging (demand 3), Reviews (the contract), Unique (it has one answer). By itself: Examples (document 01's starred ones).
 pub mod Refusals
 pub mod Rooms
 pub mod Sheets

@@ -19,7 +19,7 @@ use Rattle.schedules.proofs.Table.{decides}
 use Rattle.review.specs.declared.sheet.Pair.{Pair}
 use Rattle.review.specs.declared.faults.Fault.{Fault}
 use Rattle.review.specs.declared.faults.Fault.the-variants as fault
-use Rattle.review.specs.Order.{program}
+use Rattle.replay.specs.Program.{program}
 use Rattle.review.specs.Sheet as sheet
 use Rattle.review.specs.Faults.{succeeds, reuse, conflict, race, alongRow, allRows, pairOf, faulty, faults}
 

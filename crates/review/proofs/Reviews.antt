@@ -21,21 +21,21 @@ use Rattle.tables.proofs.Verdicts.{zero-clean}
 use Rattle.relation.specs.Table.{words, related}
 use Rattle.relation.proofs.Truth.{clashing}
 use Rattle.review.specs.declared.sheet.Pair.{Pair}
-use Rattle.review.specs.declared.state.Replay.{Replay}
-use Rattle.review.specs.declared.replay.Replayed.{Replayed}
+use Rattle.replay.specs.declared.state.Replay.{Replay}
+use Rattle.replay.specs.declared.replay.Replayed.{Replayed}
 use Rattle.review.specs.declared.faults.Fault.{Fault}
 use Rattle.review.specs.declared.faults.Fault.the-variants.{Reuse, Race}
 use Rattle.review.specs.declared.judge.Finding.{Finding}
-use Rattle.review.specs.Replay.{played}
-use Rattle.review.specs.Ending.{lowestAllowed, lowestBlocked, lowestSet, ended}
+use Rattle.replay.specs.Replay.{played}
+use Rattle.replay.specs.Ending.{lowestAllowed, lowestBlocked, lowestSet, ended}
 use Rattle.review.specs.Order.{numberAt, put, Reached}
 use Rattle.review.specs.Faults.{faults}
 use Rattle.review.specs.Sheet.{sheetOf}
 use Rattle.review.specs.Judge.{shortRooms, refused, judged, firstPair, faultTold, Filling, generations, reaches, verdictOf, fills, Plays}
 use Rattle.review.specs.Agreement.{number, Judges, Reviewed}
-use Rattle.review.proofs.Refusals.{or-first, or-second}
-use Rattle.review.proofs.Ties.{ends}
-use Rattle.review.proofs.Plays.{Ends, through, refused-at, mismatched-at, plays-all, Through, clean-through}
+use Rattle.replay.proofs.Refusals.{or-first, or-second}
+use Rattle.replay.proofs.Ties.{ends}
+use Rattle.replay.proofs.Plays.{Ends, through, refused-at, mismatched-at, plays-all, Through, clean-through}
 use Rattle.review.proofs.Rooms.{put-front, put-beyond, same-reached, related-reaches}
 use Rattle.review.proofs.Pairs.{same-faults}
 use Rattle.review.proofs.Judging.{told, judges}
@@ -77,35 +77,6 @@ module _ (commands lengths : List ℕ) (relation generations : ℕ) where
       (λ (n : checked commands lengths .number ≢ 0). absurd (n (rw (ne-eqb _ _ n) at e)))
 
 -- ---- 5 to 9
-
-ended-small : (a b d : Bool) (p q r : ℕ) → cond a (tell 6 p 0) (cond b (tell 8 q 0) (cond d (tell 9 r 0) (tell 0 0 0))) .number ≤ 9
-ended-small true b d p q r = omega arith
-ended-small false true d p q r = omega arith
-ended-small false false true p q r = omega arith
-ended-small false false false p q r = omega arith
-
-judged-small : {commands lengths : List ℕ} → Keeps commands lengths → (σ : List ℕ) → judged lengths (played commands lengths σ) .number ≤ 9
-unfolding judged ended
-judged-small {commands} {lengths} K σ = by (plays-all K σ)
-  where
-    by : Ends K σ [] (played commands lengths σ) 0 → judged lengths (played commands lengths σ) .number ≤ 9
-    by (through S G v e) = rw v (ended-small (ltb (lowestAllowed lengths s) (length lengths)) (ltb (lowestBlocked lengths s) (length lengths)) (ltb (lowestSet s) barriers) _ _ _)
-      where
-        s : Replay
-        s = played commands lengths σ .state
-    by (refused-at e nay v) = rw v (omega arith)
-    by (mismatched-at e st m v) = rw v (omega arith)
-
--- a replay that is told 0 went through
-clean-verdict : (lengths : List ℕ) (r : Replayed) → judged lengths r .number ≡ 0 → r .verdict ≡ verdict.Clean
-unfolding judged
-clean-verdict lengths r e =
-    by-cases (ℕ-discrete (numbered (r .verdict) .number) 0) (λ (z : numbered (r .verdict) .number ≡ 0). zero-clean (r .verdict) z)
-    (λ (n : numbered (r .verdict) .number ≢ 0). absurd (n (rw (ne-eqb _ _ n) at e)))
-
--- a replay is ready to be judged
-pub judges-replay : {commands lengths : List ℕ} → Keeps commands lengths → (σ : List ℕ) {r : Replayed} → r ≡ played commands lengths σ → Plays lengths r
-judges-replay K σ e = rw e (record { ends = λ c. ends K (clean-through K σ c .stands) })
 
 -- ---- which verdicts fill the rooms
 

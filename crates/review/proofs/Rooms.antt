@@ -20,7 +20,8 @@ use Rattle.relation.proofs.Chains as chains
 use Rattle.relation.proofs.Rooms.{Inside, place-in, related-inside, holds-related, holds-map, holds-more, holds-trans, holds-self, wrote}
 use Rattle.schedules.specs.Order.{Reaches, edge, reach}
 use Rattle.schedules.proofs.Table.{decides, edge-alike}
-use Rattle.review.specs.Order.{program, numberAt, put, meets, edges, Reached, Roomy, From, Drawn, Ordering}
+use Rattle.replay.specs.Program.{program}
+use Rattle.review.specs.Order.{numberAt, put, meets, edges, Reached, Roomy, From, Drawn, Ordering}
 
 -- ---- generations
 

@@ -1,4 +1,4 @@
--- Any two answers that meet a contract are equal: verdict, sheet and both rooms of a review; verdict, length and room of the writer. Assumes nothing.
+-- Any two answers that meet the contract of a review are equal: verdict, sheet and both rooms. Assumes nothing.
 use mathlib.Core.Path.{_≡_, sym, ap, ap₂, _∙_}
 use mathlib.Core.Logic.{⊎-elim, by-cases, _≢_}
 use mathlib.Core.Bool.{true, false}
@@ -13,10 +13,10 @@ use Rattle.relation.proofs.Truth.{split}
 use Rattle.relation.proofs.Rooms.{Words, holds-one}
 use Rattle.review.specs.declared.sheet.Sheet.{Sheet}
 use Rattle.review.specs.declared.judge.Finding.{Finding}
-use Rattle.review.specs.declared.writer.Written.{Written}
+use Rattle.replay.specs.declared.writer.Written.{Written}
 use Rattle.review.specs.Judge.{fills}
 use Rattle.review.specs.Agreement.{number, Reviewed, Writes}
-use Rattle.review.specs.Writer.{schedule}
+use Rattle.replay.specs.Writer.{schedule}
 
 module _ (commands lengths σ relation room : List ℕ) (a b : Finding) {ra ga rb gb : List ℕ} (wa : Words ra) (wb : Words rb)
     (A : Reviewed commands lengths σ relation room a ra ga) (B : Reviewed commands lengths σ relation room b rb gb) where
@@ -43,24 +43,3 @@ module _ (commands lengths σ relation room : List ℕ) (a b : Finding) {ra ga r
         A .demand₁ .room-kept t ∙ sym (B .demand₁ .room-kept u),
       ))
       (split (fills (number a)))
-
-module _ (commands lengths room : List ℕ) (a b : Written) {ra rb : List ℕ} (A : Writes commands lengths room ra a) (B : Writes commands lengths room rb b) where
-  one-verdict : a .verdict ≡ b .verdict
-  one-verdict = numbered-one _ _ (A .verdict ∙ sym (B .verdict))
-
-  pub write-one : (a ≡ b) × (ra ≡ rb)
-  write-one =
-      by-cases (ℕ-discrete (numbered (a .verdict) .number) 0)
-      (λ (e : numbered (a .verdict) .number ≡ 0).
-      let x = A .wrote e in
-      let y = B .wrote (ap (λ (v : Verdict). numbered v .number) (sym one-verdict) ∙ e) in
-      let n : a .length ≡ b .length = x .long ∙ sym (y .long) in (
-        ap₂ (λ (v : Verdict) (n : ℕ). record { verdict = v; length = n }) one-verdict n,
-        x .room ∙ ap (λ (n : ℕ). schedule commands lengths ++ drop n room) n ∙ sym (y .room),
-      ))
-      (λ (f : numbered (a .verdict) .number ≢ 0).
-      let x = A .refused f in
-      let y = B .refused (λ e. f (ap (λ (v : Verdict). numbered v .number) one-verdict ∙ e)) in (
-        ap₂ (λ (v : Verdict) (n : ℕ). record { verdict = v; length = n }) one-verdict (x .0 ∙ sym (y .0)),
-        x .1 ∙ sym (y .1),
-      ))

@@ -1,21 +1,20 @@
--- What a review promises: the user's three demands; and what the schedule writer promises.
+-- What a review promises: the user's three demands.
 use mathlib.Core.Path.{_≡_}
 use mathlib.Core.Bool.{true, false}
 use mathlib.Core.List.{List, []}
-use mathlib.Core.Logic.{_⊎_, _↔_}
-use Prim.Native.Nat.{ℕ, _≤_}
+use mathlib.Core.Logic.{_⊎_, _↔_, _≢_}
+use Prim.Native.Nat.{ℕ, _≤_, _<_}
 use lib.ListN.{length, getD}
 use Rattle.tables.specs.Rows.{rows}
 use Rattle.tables.specs.Verdicts.{tell, numbered}
 use Rattle.relation.specs.Table.{words}
-use Rattle.review.specs.declared.writer.Written.{Written}
 use Rattle.review.specs.declared.judge.Finding.{Finding}
-use Rattle.review.specs.Replay.{played}
-use Rattle.review.specs.Writer.{schedule, unwritten, Filled}
+use Rattle.replay.specs.Replay.{played}
 use Rattle.review.specs.Order.{put, Reached}
 use Rattle.review.specs.Sheet.{sheetOf}
+use Rattle.review.specs.Faults.{conflict}
 use Rattle.review.specs.Judge.{refused, verdictOf, faultPairs, generations, reaches, fills}
-use Rattle.review.specs.Schedules.{Complete, Agree, SameOrder, Disagree}
+use Rattle.replay.specs.Schedules.{Complete, Agree, InOneOrder, Disagree}
 
 -- the number of a review's verdict
 abbrev pub number : Finding → ℕ
@@ -41,6 +40,11 @@ pub record Exact (commands lengths schedule relation room : List ℕ) (r : Findi
   pub relation-holds : fills (number r) ≡ true → Reached commands lengths (generations commands lengths schedule) relation relation′
   pub room-holds : fills (number r) ≡ true → room′ ≡ put (played commands lengths schedule .generations) (rows commands) room
 
+-- Every two conflicting accesses stand in the same order in all legal complete schedules.
+abbrev pub SameOrder : List ℕ → List ℕ → Type 0
+SameOrder commands lengths =
+    (x y : ℕ) → x < rows commands → y < rows commands → x ≢ y → conflict commands x y ≡ true → InOneOrder commands lengths x y
+
 -- Demand 3, of a verdict's number: 0 or 11 exactly when the schedule offered is legal and complete and every legal complete schedule ends
 -- clean with the same generation for each command; 0 exactly when, besides, every two conflicting accesses stand in the same order in all of
 -- those schedules; 7 to 10 only where that agreement fails, and the schedules that show it are given.
@@ -54,10 +58,3 @@ pub record Reviewed (commands lengths schedule relation room : List ℕ) (r : Fi
   pub demand₁ : Safe commands relation room r relation′ room′
   pub demand₂ : Exact commands lengths schedule relation room r relation′ room′
   pub demand₃ : refused commands lengths (length relation) (length room) ≡ tell 0 0 0 → Judges commands lengths schedule (number r)
-
--- The contract of `write_schedule`: 1 to 4 and the room as it was, or the schedule, which is legal and complete, and its length.
-pub record Writes (commands lengths before after : List ℕ) (r : Written) : Type 0 where
-  pub verdict : numbered (r .verdict) ≡ unwritten commands lengths (length before)
-  pub refused : (numbered (r .verdict) .number ≡ 0 → ⊥) → (r .length ≡ 0) × (after ≡ before)
-  pub wrote : numbered (r .verdict) .number ≡ 0 → Filled commands lengths before after (r .length)
-  pub complete : numbered (r .verdict) .number ≡ 0 → Complete commands lengths (schedule commands lengths)

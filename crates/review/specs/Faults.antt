@@ -10,7 +10,7 @@ use Rattle.review.specs.declared.sheet.Pair.{Pair}
 use Rattle.review.specs.declared.sheet.Sheet.{Sheet}
 use Rattle.review.specs.declared.faults.Fault.{Fault}
 use Rattle.review.specs.declared.faults.Fault.the-variants.{Reuse, Race}
-use Rattle.review.specs.Step.{registers}
+use Rattle.replay.specs.Step.{registers}
 use Rattle.review.specs.Sheet.{pair, added}
 
 -- Same barrier, c₂ one generation after c₁. Reads and writes belong to no barrier.

@@ -8,17 +8,16 @@ use Rattle.tables.specs.Rows.{rows}
 use Rattle.tables.specs.Rules.{checked}
 use Rattle.tables.specs.Verdicts.{tell, numbered}
 use Rattle.tables.specs.declared.verdict.Told.{Told}
-use Rattle.tables.specs.declared.verdict.Verdict.the-variants as verdict
 use Rattle.relation.specs.Table.{words, related}
 use Rattle.schedules.specs.Order.{reach}
-use Rattle.review.specs.declared.replay.Replayed.{Replayed}
 use Rattle.review.specs.declared.sheet.Pair.{Pair}
 use Rattle.review.specs.declared.faults.Fault.the-variants.{Reuse, Race}
 use Rattle.review.specs.declared.judge.Finding.{Finding}
-use Rattle.review.specs.InOrder.{orElse}
-use Rattle.review.specs.Replay.{played, generation}
-use Rattle.review.specs.Ending.{ended, Ends}
-use Rattle.review.specs.Order.{program, numberAt, put, Reached}
+use Rattle.replay.specs.InOrder.{orElse}
+use Rattle.replay.specs.Replay.{played, generation}
+use Rattle.replay.specs.Ending.{judged}
+use Rattle.replay.specs.Program.{program}
+use Rattle.review.specs.Order.{numberAt, put, Reached}
 use Rattle.review.specs.Sheet.{sheetOf}
 use Rattle.review.specs.Faults.{faults}
 
@@ -29,10 +28,6 @@ shortRooms m relation generations = cond (ltb relation (words m)) (tell 4 0 0) (
 -- 1 to 4, of tables and the lengths of the two rooms
 unfoldable pub refused : List ℕ → List ℕ → ℕ → ℕ → Told
 refused commands lengths relation generations = orElse (checked commands lengths) (shortRooms (rows commands) relation generations)
-
--- 5 and 7, judged step by step; then 6, 8, 9
-unfoldable pub judged : List ℕ → Replayed → Told
-judged lengths r = orElse (numbered (r .verdict)) (ended lengths (r .state) (r .steps))
 
 -- a fault's number with the first pair, or what is told else
 abbrev pub firstPair : ℕ → List Pair → Told → Told
@@ -74,10 +69,6 @@ module _ (commands lengths schedule : List ℕ) where
 -- For 0, 10 and 11 both rooms are filled. For all others both rooms are untouched.
 abbrev pub fills : ℕ → Bool
 fills n = eqb n 0 || (eqb n 10 || eqb n 11)
-
--- what judging a replay asks for
-pub record Plays (lengths : List ℕ) (r : Replayed) : Type 0 where
-  pub ends : r .verdict ≡ verdict.Clean → Ends lengths (r .state)
 
 -- what filling leaves: the generations that were found, what reaches what over them, and what the two tell
 pub record Filling (commands lengths found relation room : List ℕ) (r : Finding) (relation′ room′ : List ℕ) : Type 0 where

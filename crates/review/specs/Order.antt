@@ -5,32 +5,13 @@ use mathlib.Core.List.{List, _++_}
 use Prim.Native.Nat.{ℕ, _≤_, _<_}
 use lib.Dec.{eqb}
 use lib.ListN.{length, getD, take, drop}
-use Rattle.tables.specs.Rows.{rows, name, count, isFirst}
+use Rattle.tables.specs.Rows.{rows, name}
 use Rattle.tables.specs.Rules.{Keeps}
 use Rattle.relation.specs.Chains.{orSame}
 use Rattle.relation.specs.Table.{words, Holds}
-use Rattle.schedules.specs.Machine.{Program}
 use Rattle.schedules.specs.Order.{Reaches, edge}
-use Rattle.review.specs.declared.barrier.Phase.the-variants.{Expecting}
-use Rattle.review.specs.Barrier.{refuses}
-use Rattle.review.specs.Step.{registers, syncs}
-
--- d may not register where c alone has
-abbrev pub clash : List ℕ → ℕ → ℕ → Bool
-clash commands c d = refuses (Expecting (count commands c) 1) (count commands d)
-
--- The tables as a program, of which `schedules` says what reaches what.
-abbrev pub program : List ℕ → List ℕ → Program
-program commands lengths =
-    record {
-      size = rows commands;
-      first = isFirst lengths;
-      registers = registers commands;
-      syncs = syncs commands;
-      barrier = name commands;
-      count = count commands;
-      clash = clash commands;
-    }
+use Rattle.replay.specs.Program.{program}
+use Rattle.replay.specs.Step.{registers, syncs}
 
 -- numbers in a room, or in a list, by their place
 abbrev pub numberAt : List ℕ → ℕ → ℕ

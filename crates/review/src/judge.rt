@@ -9,16 +9,15 @@ ghost use Rattle.tables.specs.Verdicts.{numbered};
 ghost use Rattle.relation.specs.Table.{related};
 ghost use Rattle.review.specs.Sheet.{sheetOf};
 ghost use Rattle.review.specs.Order.{numberAt, Roomy};
-ghost use Rattle.review.specs.Judge.{refused, judged, Looked, Plays, Filling};
+ghost use Rattle.review.specs.Judge.{refused, Looked, Filling};
 ghost use Rattle.review.specs.Agreement.{Reviewed};
 use crate::faults::Fault;
 use crate::faults::search;
 use crate::order::put_generations;
 use crate::order::put_order;
-use crate::replay::Replayed;
-use crate::replay::replay;
 use crate::sheet::Sheet;
 use relation::table_words;
+use replay::judge;
 use tables::Table;
 use tables::Verdict;
 use tables::check_tables;
@@ -54,18 +53,6 @@ fn refuse(commands: &[u32], lengths: &[u32], relation: usize, generations: usize
         return Verdict::ShortRoom(1);
     }
     Verdict::Clean
-}
-
-// 5 and 7, then 6, 8 and 9, or 0.
-fn judge(replayed: Replayed, lengths: &[u32]) -> Verdict
-    requires { ⌜ Plays (now lengths) replayed ⌝ }
-    ensures { λ r. ⌜ numbered r ≡ judged (now (lengths .entry)) replayed ⌝ }
-{
-    let verdict = replayed.verdict;
-    if verdict.number().number != 0 {
-        return verdict;
-    }
-    replayed.state.ending(lengths, replayed.steps)
 }
 
 // 10, 11 or 0, with the sheet. Races are looked for only when there is no reuse fault.
@@ -122,11 +109,11 @@ pub fn review(
     if refusal.number().number != 0 {
         return bare(refusal);
     }
-    let replayed = replay(commands, lengths, schedule);
-    let verdict = judge(replayed, lengths);
+    let judged = judge(commands, lengths, schedule);
+    let verdict = judged.verdict;
     if verdict.number().number != 0 {
         return bare(verdict);
     }
-    let found = replayed.generations;
+    let found = judged.generations;
     fill(commands, lengths, found, relation, generations)
 }

@@ -2,7 +2,7 @@
 use native.Mathlib.Omega.{arith}
 use borrow.Author.Needs.{needs}
 use Rattle.tables.specs.Limits.{mostRows}
-use Rattle.review.proofs.Refusals.{passed, refuses-tables, refuses-relation, refuses-generations, refuses-none}
+use Rattle.replay.proofs.Refusals.{passed, refuses-tables, refuses-relation, refuses-generations, refuses-none}
 use Rattle.review.proofs.judge.refuse.Statement.{statement}
 use Rattle.review.proofs.judge.refuse.Tie as tie
 

@@ -3,7 +3,7 @@ use mathlib.Core.Path.{ap, _∙_}
 use native.Mathlib.Omega.{arith}
 use borrow.Author.Needs.{needs}
 use Rattle.review.specs.Judge.{judged}
-use Rattle.review.proofs.Refusals.{number-is, said-zero}
+use Rattle.replay.proofs.Refusals.{number-is, said-zero}
 use Rattle.review.proofs.Reviews.{admitted, judges-replay, reviewed-refused, reviewed-judged, reviewed-filled}
 use Rattle.review.proofs.judge.review.Statement.{statement}
 use Rattle.review.proofs.judge.review.Tie as tie

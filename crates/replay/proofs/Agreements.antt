@@ -1,0 +1,97 @@
+-- Agreement and order, between the schedules of the replay and those of `schedules`. Assumes nothing.
+use mathlib.Core.Path.{_≡_, sym, ap, _∙_, subst}
+use mathlib.Core.Logic.{_↔_}
+use mathlib.Core.Bool.{false}
+use mathlib.Core.List.{List, reverse, reverse-reverse}
+use Prim.Native.Nat.{ℕ, zero, suc, _+_, _<_}
+use native.Mathlib.Omega.{arith}
+use Rattle.tables.specs.Rows.{rows, threadOf}
+use Rattle.tables.specs.Rules.{Keeps}
+use Rattle.relation.specs.Chains.{here, goes}
+use Rattle.relation.proofs.Chains.{reach-map}
+use Rattle.relation.proofs.Truth.{isnt}
+use Rattle.schedules.specs.Machine.{Program}
+use Rattle.schedules.specs.Threads as threads
+use Rattle.schedules.specs.Order.{along, Reaches, Succeeds, Waits, Reuse}
+use Rattle.schedules.specs.Claims as claims
+use Rattle.schedules.proofs.Table.{edge-alike}
+use Rattle.replay.specs.Program.{program}
+use Rattle.replay.specs.Schedules.{Complete, Clean, Agree, Precedes, InOneOrder, Disagree, unclean, unlike}
+use Rattle.replay.proofs.Programs as programs
+use Rattle.replay.proofs.Plays.{clean-through}
+use Rattle.replay.proofs.Schedules.{complete-to, complete-from, clean-from, generation-is}
+use Rattle.replay.proofs.Precede.{precedes-to, precedes-from}
+
+-- ---- what reaches what hangs on the generations of the program's commands alone
+
+module _ (P : Program) {g g′ : ℕ → ℕ} (same : (c : ℕ) → c < P .size → g c ≡ g′ c) where
+  pub reaches-same : {x y : ℕ} → Reaches P g x y → Reaches P g′ x y
+  reaches-same = reach-map (edge-alike same)
+
+  succeeds-same : {c₁ c₂ : ℕ} → Succeeds P g c₁ c₂ → Succeeds P g′ c₁ c₂
+  succeeds-same s =
+      record { low₁ = s .low₁; low₂ = s .low₂; reg₁ = s .reg₁; reg₂ = s .reg₂; at = s .at; gen = sym (same _ (s .low₂)) ∙ s .gen ∙ ap suc (same _ (s .low₁)) }
+
+  waits-same : {c₁ c₂ : ℕ} → Waits P g c₁ c₂ → Waits P g′ c₁ c₂
+  waits-same w = record { before = w .before; is-before = w .is-before; not-first = w .not-first; reached = reaches-same (w .reached) }
+
+pub reuse-same : (P : Program) {g g′ : ℕ → ℕ} → ((c : ℕ) → c < P .size → g c ≡ g′ c) → {c₁ c₂ : ℕ} → Reuse P g c₁ c₂ → Reuse P g′ c₁ c₂
+reuse-same P same r =
+    record { succeeds = succeeds-same P same (r .succeeds); loose = λ w. r .loose (waits-same P (λ c l. sym (same c l)) w) }
+
+module _ {table lengths : List ℕ} (K : Keeps table lengths) where
+  abbrev P : Program
+  P = program table lengths
+
+  abbrev H : threads.Threads (program table lengths)
+  H = programs.threads K
+
+  -- a command reaches the later ones of its thread
+  pub reaches-on : (g : ℕ → ℕ) (n x : ℕ) → x + n < rows table → threadOf lengths x ≡ threadOf lengths (x + n) → Reaches P g x (x + n)
+  reaches-on g zero x l e = subst (Reaches P g x) (omega arith) here
+  reaches-on g (suc n) x l e =
+      let t = threadOf lengths x in
+      let hx = H .home x (omega arith) in
+      let hy : x + suc n < H .high t = subst (λ (t : ℕ). x + suc n < H .high t) (sym e) (H .home (x + suc n) l .2) in
+      let th : threadOf lengths (x + n) ≡ t = H .only t (x + n) (hx .0) (omega (arith, hx .1)) (omega arith) .0 in
+      let nf : P .first (x + suc n) ≡ false = isnt _ (λ f. omega (arith, H .is-first (x + suc n) l f, ap (H .low) e, hx .1)) in
+      goes (reaches-on g n x (omega arith) (sym th)) (along l (omega arith) nf)
+
+  -- ---- agreement
+
+  pub agree-from : claims.Agree P H → Agree table lengths
+  agree-from S =
+      let clean : (τ : List ℕ) → Complete table lengths τ → Clean table lengths τ = λ τ c. clean-from K (S (reverse τ) (reverse τ) (complete-to K c) (complete-to K c) .0) in
+      record {
+        clean = clean;
+        alike =
+            λ σ τ cσ cτ x l. generation-is K (clean-through K σ (clean σ cσ .through)) x l
+            ∙ sym (S (reverse σ) (reverse τ) (complete-to K cσ) (complete-to K cτ) .2 x l)
+            ∙ sym (generation-is K (clean-through K τ (clean τ cτ .through)) x l);
+      }
+
+  pub disagreed : Disagree table lengths → ¬ Agree table lengths
+  disagreed (unclean τ c n) A = n (A .clean τ c)
+  disagreed (unlike σ τ cσ cτ c l n) A = n (A .alike σ τ cσ cτ c l)
+
+  -- ---- the order of two commands, where all schedules agree
+
+  module _ (A : Agree table lengths) (x y : ℕ) (lx : x < rows table) (ly : y < rows table) where
+    precedes-is : (σ : List ℕ) → Complete table lengths σ → Precedes table lengths x y σ ↔ claims.Precedes P H x y (reverse σ)
+    precedes-is σ c = let T = clean-through K σ (A .clean σ c .through) in (precedes-to K σ T x y lx ly, precedes-from K σ T x y lx ly)
+
+    pub order-from : claims.SameOrder P H x y → InOneOrder table lengths x y
+    order-from S σ τ cσ cτ =
+        let (a, b) = precedes-is σ cσ in
+        let (c, d) = precedes-is τ cτ in
+        let (to, from) = S (reverse σ) (reverse τ) (complete-to K cσ) (complete-to K cτ) in
+        (λ p. d (to (a p)), λ p. b (from (c p)))
+
+    pub order-to : InOneOrder table lengths x y → claims.SameOrder P H x y
+    order-to S σ τ cσ cτ =
+        let (a, b) = precedes-is (reverse σ) (complete-from K cσ) in
+        let (c, d) = precedes-is (reverse τ) (complete-from K cτ) in
+        let (to, from) = S (reverse σ) (reverse τ) (complete-from K cσ) (complete-from K cτ) in
+        subst (λ (l : List ℕ). claims.Precedes P H x y l ↔ claims.Precedes P H x y τ) (reverse-reverse σ)
+        (subst (λ (l : List ℕ). claims.Precedes P H x y (reverse (reverse σ)) ↔ claims.Precedes P H x y l) (reverse-reverse τ)
+        ((λ p. c (to (b p))), (λ p. a (from (d p)))))

@@ -1,0 +1,77 @@
+-- What is told of a replay: at most 9, and 0 only where it went through. Assumes nothing.
+use mathlib.Core.Path.{_≡_, sym, ap, _∙_}
+use mathlib.Core.Logic.{by-cases, _≢_}
+use mathlib.Core.Bool.{Bool, true, false, cond}
+use mathlib.Core.List.{List, []}
+use Prim.Native.Nat.{ℕ, _≤_}
+use native.Mathlib.Omega.{arith}
+use native.Mathlib.Decide.{ℕ-discrete}
+use lib.Dec.{ltb}
+use lib.ListN.{length, replicate}
+use borrow.Author.Tests.{eq-eqb, ne-eqb}
+use Rattle.tables.specs.Limits.{mostRows, barriers}
+use Rattle.tables.specs.Rules.{Keeps, checked}
+use Rattle.tables.specs.Verdicts.{tell, numbered}
+use Rattle.tables.specs.declared.verdict.Told.{Told}
+use Rattle.tables.specs.declared.verdict.Verdict.{Verdict}
+use Rattle.tables.specs.declared.verdict.Verdict.the-variants as verdict
+use Rattle.tables.proofs.Verdicts.{zero-clean}
+use Rattle.replay.specs.declared.state.Replay.{Replay}
+use Rattle.replay.specs.declared.replay.Replayed.{Replayed}
+use Rattle.replay.specs.Replay.{played}
+use Rattle.replay.specs.Ending.{lowestAllowed, lowestBlocked, lowestSet, ended, judged, Plays}
+use Rattle.replay.specs.declared.offered.Judged.{Judged}
+use Rattle.replay.specs.Doors.{Judges}
+use Rattle.replay.proofs.Refusals.{number-is, check-first, check-second}
+use Rattle.replay.proofs.Ties.{ends}
+use Rattle.replay.proofs.Plays.{Ends, through, refused-at, mismatched-at, plays-all, clean-through}
+
+ended-small : (a b d : Bool) (p q r : ℕ) → cond a (tell 6 p 0) (cond b (tell 8 q 0) (cond d (tell 9 r 0) (tell 0 0 0))) .number ≤ 9
+ended-small true b d p q r = omega arith
+ended-small false true d p q r = omega arith
+ended-small false false true p q r = omega arith
+ended-small false false false p q r = omega arith
+
+pub judged-small : {commands lengths : List ℕ} → Keeps commands lengths → (σ : List ℕ) → judged lengths (played commands lengths σ) .number ≤ 9
+unfolding judged ended
+judged-small {commands} {lengths} K σ = by (plays-all K σ)
+  where
+    by : Ends K σ [] (played commands lengths σ) 0 → judged lengths (played commands lengths σ) .number ≤ 9
+    by (through S G v e) = rw v (ended-small (ltb (lowestAllowed lengths s) (length lengths)) (ltb (lowestBlocked lengths s) (length lengths)) (ltb (lowestSet s) barriers) _ _ _)
+      where
+        s : Replay
+        s = played commands lengths σ .state
+    by (refused-at e nay v) = rw v (omega arith)
+    by (mismatched-at e st m v) = rw v (omega arith)
+
+-- a replay that is told 0 went through
+pub clean-verdict : (lengths : List ℕ) (r : Replayed) → judged lengths r .number ≡ 0 → r .verdict ≡ verdict.Clean
+unfolding judged
+clean-verdict lengths r e =
+    by-cases (ℕ-discrete (numbered (r .verdict) .number) 0) (λ (z : numbered (r .verdict) .number ≡ 0). zero-clean (r .verdict) z)
+    (λ (n : numbered (r .verdict) .number ≢ 0). absurd (n (rw (ne-eqb _ _ n) at e)))
+
+-- a replay is ready to be judged
+pub judges-replay : {commands lengths : List ℕ} → Keeps commands lengths → (σ : List ℕ) {r : Replayed} → r ≡ played commands lengths σ → Plays lengths r
+judges-replay K σ e = rw e (record { ends = λ c. ends K (clean-through K σ c .stands) })
+
+-- ---- the judge's answer, of tables that the check said v of
+
+module _ (commands lengths σ : List ℕ) (v : Verdict) {told : Told} (check : numbered v ≡ checked commands lengths) (said : told ≡ numbered v) where
+  checked-number : told .number ≡ checked commands lengths .number
+  checked-number = number-is v said ∙ ap (λ (t : Told). t .number) check
+
+  pub judges-refused : told .number ≢ 0 → Judges commands lengths σ (record { verdict = v; generations = replicate mostRows 0 })
+  judges-refused n =
+      record {
+        verdict = check-first commands lengths v check said _ n;
+        generations = rw (ne-eqb (checked commands lengths .number) 0 (λ e. n (checked-number ∙ e)));
+      }
+
+  pub judges-replayed : told .number ≡ 0 → (q : Replayed) → q ≡ played commands lengths σ → (w : Verdict) → numbered w ≡ judged lengths q
+      → Judges commands lengths σ (record { verdict = w; generations = q .generations })
+  judges-replayed e q is w tells =
+      record {
+        verdict = tells ∙ ap (judged lengths) is ∙ check-second commands lengths v check said _ e;
+        generations = rw (eq-eqb (checked commands lengths .number) 0 (sym checked-number ∙ e)) (ap (λ (q : Replayed). q .generations) is);
+      }

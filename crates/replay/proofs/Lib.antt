@@ -1,0 +1,27 @@
+-- Laws, by subject, in an order that can be read.
+-- The code's loops and tests: Fronts, Scans, Registering, Steps, Endings, Refusals.
+-- The kept state and the machine of `schedules`: Programs (the tables as a program with threads), Phases and Waits (what kept barriers and waits
+-- stand for), Few (how long a schedule is), Ties (the two states beside each other), Tied (one step of both), Standing and Replaying (what loops need).
+-- Whole schedules: Plays (a replay), Judged (what is told of it), Schedules (legal, complete and clean are the same for both), Writing (the schedule writer), Precede (what stands
+-- before what), Agreements, Unique (the doors have one answer each).
+pub mod Fronts
+pub mod Scans
+pub mod Registering
+pub mod Steps
+pub mod Endings
+pub mod Refusals
+pub mod Programs
+pub mod Phases
+pub mod Waits
+pub mod Few
+pub mod Ties
+pub mod Tied
+pub mod Standing
+pub mod Replaying
+pub mod Plays
+pub mod Judged
+pub mod Schedules
+pub mod Writing
+pub mod Precede
+pub mod Agreements
+pub mod Unique

@@ -1,0 +1,40 @@
+-- Any two answers that meet a door's contract are equal. Assumes nothing.
+use mathlib.Core.Path.{_≡_, sym, ap, ap₂, _∙_}
+use mathlib.Core.Logic.{by-cases, _≢_}
+use mathlib.Core.List.{List, _++_}
+use Prim.Native.Nat.{ℕ}
+use native.Mathlib.Decide.{ℕ-discrete}
+use lib.ListN.{drop}
+use Rattle.tables.specs.Verdicts.{numbered}
+use Rattle.tables.specs.declared.verdict.Told.{Told}
+use Rattle.tables.specs.declared.verdict.Verdict.{Verdict}
+use Rattle.tables.proofs.Verdicts.{numbered-one}
+use Rattle.replay.specs.declared.offered.Judged.{Judged}
+use Rattle.replay.specs.declared.writer.Written.{Written}
+use Rattle.replay.specs.Writer.{schedule}
+use Rattle.replay.specs.Doors.{Judges, Writes}
+
+pub judge-one : (commands lengths σ : List ℕ) (a b : Judged) → Judges commands lengths σ a → Judges commands lengths σ b → a ≡ b
+judge-one commands lengths σ a b A B =
+    ap₂ (λ (v : Verdict) (g : List ℕ). record { verdict = v; generations = g }) (numbered-one _ _ (A .verdict ∙ sym (B .verdict))) (A .generations ∙ sym (B .generations))
+
+module _ (commands lengths room : List ℕ) (a b : Written) {ra rb : List ℕ} (A : Writes commands lengths room ra a) (B : Writes commands lengths room rb b) where
+  one-verdict : a .verdict ≡ b .verdict
+  one-verdict = numbered-one _ _ (A .verdict ∙ sym (B .verdict))
+
+  pub write-one : (a ≡ b) × (ra ≡ rb)
+  write-one =
+      by-cases (ℕ-discrete (numbered (a .verdict) .number) 0)
+      (λ (e : numbered (a .verdict) .number ≡ 0).
+      let x = A .wrote e in
+      let y = B .wrote (ap (λ (v : Verdict). numbered v .number) (sym one-verdict) ∙ e) in
+      let n : a .length ≡ b .length = x .long ∙ sym (y .long) in (
+        ap₂ (λ (v : Verdict) (n : ℕ). record { verdict = v; length = n }) one-verdict n,
+        x .room ∙ ap (λ (n : ℕ). schedule commands lengths ++ drop n room) n ∙ sym (y .room),
+      ))
+      (λ (f : numbered (a .verdict) .number ≢ 0).
+      let x = A .refused f in
+      let y = B .refused (λ e. f (ap (λ (v : Verdict). numbered v .number) one-verdict ∙ e)) in (
+        ap₂ (λ (v : Verdict) (n : ℕ). record { verdict = v; length = n }) one-verdict (x .0 ∙ sym (y .0)),
+        x .1 ∙ sym (y .1),
+      ))

@@ -1,0 +1,29 @@
+-- `Replay::allows` meets its contract, by its tests in their order. Assumes nothing.
+use borrow.Author.Needs.{needs}
+use borrow.Author.Tests.{lt-ltb, le-ltb}
+use Rattle.tables.specs.Limits.{mostThreads}
+use Rattle.replay.specs.Step.{allowed}
+use Rattle.replay.proofs.state.Replay.allows.Statement.{statement}
+use Rattle.replay.proofs.state.Replay.allows.Tie as tie
+
+returns : tie.Need-returns
+unfolding allowed
+returns c = simp (le-ltb _ _ (c .if1 .taken))
+
+returns-2 : tie.Need-returns-2
+unfolding allowed
+returns-2 c = simp (lt-ltb _ _ (c .before .before .before .if1 .left))
+
+pub allows-spec : {M : Type 1} → statement M
+unfolding mostThreads
+allows-spec =
+    tie.close
+    (tie.spec
+    returns
+    (λ c. search needs)
+    (λ c. search needs)
+    (λ c. search needs)
+    (λ c. search needs)
+    (λ c. search needs)
+    (λ c. search needs)
+    returns-2)

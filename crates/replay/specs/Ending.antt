@@ -1,0 +1,62 @@
+-- How a replay that went through ended.
+use mathlib.Core.Path.{_≡_}
+use mathlib.Core.Bool.{Bool, true, cond, not}
+use mathlib.Core.List.{List}
+use Prim.Native.Nat.{ℕ, _-_, _≤_, _<_}
+use lib.Dec.{eqb, ltb}
+use lib.ListN.{length}
+use Rattle.tables.specs.Limits.{mostRows, mostThreads, barriers}
+use Rattle.tables.specs.Lowest.{lowest}
+use Rattle.tables.specs.Rows.{total}
+use Rattle.tables.specs.Verdicts.{tell, numbered}
+use Rattle.tables.specs.declared.verdict.Told.{Told}
+use Rattle.tables.specs.declared.verdict.Verdict.the-variants as verdict
+use Rattle.replay.specs.declared.state.Replay.{Replay}
+use Rattle.replay.specs.declared.replay.Replayed.{Replayed}
+use Rattle.replay.specs.InOrder.{orElse}
+use Rattle.replay.specs.Barrier.{isSet}
+use Rattle.replay.specs.State.{run, waiting, barrierAt}
+use Rattle.replay.specs.Step.{allowed, command}
+
+-- A blocked thread with nothing left to run hasn't finished.
+abbrev pub isBlocked : Replay → ℕ → Bool
+isBlocked s t = not (eqb (waiting s t) 0)
+
+abbrev pub barrierSet : Replay → ℕ → Bool
+barrierSet s b = isSet (barrierAt s b .phase)
+
+-- the last command run by thread t
+abbrev pub lastRun : List ℕ → Replay → ℕ → ℕ
+lastRun lengths s t = command lengths s t - 1
+
+-- the lowest thread that may step, the lowest blocked thread, or the number of threads
+abbrev pub lowestAllowed : List ℕ → Replay → ℕ
+lowestAllowed lengths s = lowest (allowed lengths s) (length lengths)
+
+abbrev pub lowestBlocked : List ℕ → Replay → ℕ
+lowestBlocked lengths s = lowest (isBlocked s) (length lengths)
+
+-- the lowest barrier that is set, or the number of barriers
+abbrev pub lowestSet : Replay → ℕ
+lowestSet s = lowest (barrierSet s) barriers
+
+-- 6: the schedule stops while a step is allowed. 8: no step allowed, some thread blocked. 9: all finished, a barrier still set.
+unfoldable pub ended : List ℕ → Replay → ℕ → Told
+ended lengths s steps =
+    cond (ltb (lowestAllowed lengths s) (length lengths)) (tell 6 steps 0)
+    (cond (ltb (lowestBlocked lengths s) (length lengths)) (tell 8 (lastRun lengths s (lowestBlocked lengths s)) 0)
+    (cond (ltb (lowestSet s) barriers) (tell 9 (lowestSet s) 0) (tell 0 0 0)))
+
+-- what this asks for: the tables are within their limits, and a blocked thread has run a command
+pub record Ends (lengths : List ℕ) (s : Replay) : Type 0 where
+  pub few-threads : length lengths ≤ mostThreads
+  pub few-rows : total lengths ≤ mostRows
+  pub has-run : (t : ℕ) → t < length lengths → isBlocked s t ≡ true → 1 ≤ run s t
+
+-- 5 and 7, judged step by step; then 6, 8, 9
+unfoldable pub judged : List ℕ → Replayed → Told
+judged lengths r = orElse (numbered (r .verdict)) (ended lengths (r .state) (r .steps))
+
+-- what judging a replay asks for
+pub record Plays (lengths : List ℕ) (r : Replayed) : Type 0 where
+  pub ends : r .verdict ≡ verdict.Clean → Ends lengths (r .state)

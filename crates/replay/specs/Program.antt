@@ -1,0 +1,25 @@
+-- The tables as a program, of which `schedules` says how its barriers behave and what reaches what.
+use mathlib.Core.Bool.{Bool}
+use mathlib.Core.List.{List}
+use Prim.Native.Nat.{ℕ}
+use Rattle.tables.specs.Rows.{rows, name, count, isFirst}
+use Rattle.schedules.specs.Machine.{Program}
+use Rattle.replay.specs.declared.barrier.Phase.the-variants.{Expecting}
+use Rattle.replay.specs.Barrier.{refuses}
+use Rattle.replay.specs.Step.{registers, syncs}
+
+-- d may not register where c alone has
+abbrev pub clash : List ℕ → ℕ → ℕ → Bool
+clash commands c d = refuses (Expecting (count commands c) 1) (count commands d)
+
+abbrev pub program : List ℕ → List ℕ → Program
+program commands lengths =
+    record {
+      size = rows commands;
+      first = isFirst lengths;
+      registers = registers commands;
+      syncs = syncs commands;
+      barrier = name commands;
+      count = count commands;
+      clash = clash commands;
+    }

@@ -1,0 +1,48 @@
+-- The replay state: how many commands each thread has run, what it waits for (0, or the barrier plus 1), and the barriers.
+use mathlib.Core.Bool.{cond}
+use mathlib.Core.List.{List, map}
+use Prim.Native.Nat.{ℕ, _+_}
+use lib.Dec.{eqb}
+use lib.ListN.{getD, set, replicate}
+use Rattle.tables.specs.Limits.{mostThreads, barriers}
+use Rattle.replay.specs.declared.barrier.Barrier.{Barrier}
+use Rattle.replay.specs.declared.state.Replay.{Replay}
+use Rattle.replay.specs.Barrier.{unset}
+
+-- All barriers start unset and all threads unblocked.
+unfoldable pub start : Replay
+start = record { next = replicate mostThreads 0; waits = replicate mostThreads 0; barriers = replicate barriers (unset 0) }
+
+-- how many commands thread t has run
+abbrev pub run : Replay → ℕ → ℕ
+run s t = getD (s .next) t 0
+
+-- what thread t waits for: 0, or the barrier plus 1
+abbrev pub waiting : Replay → ℕ → ℕ
+waiting s t = getD (s .waits) t 0
+
+abbrev pub barrierAt : Replay → ℕ → Barrier
+barrierAt s b = getD (s .barriers) b (unset 0)
+
+-- thread t has run one command more
+abbrev pub advanced : Replay → ℕ → Replay
+advanced s t = record { next = set (s .next) t (run s t + 1); waits = s .waits; barriers = s .barriers }
+
+-- barrier b is v
+abbrev pub stored : Replay → ℕ → Barrier → Replay
+stored s b v = record { next = s .next; waits = s .waits; barriers = set (s .barriers) b v }
+
+-- thread t waits at barrier b
+abbrev pub blocked : Replay → ℕ → ℕ → Replay
+blocked s t b = record { next = s .next; waits = set (s .waits) t (b + 1); barriers = s .barriers }
+
+-- every thread that waits for w is released
+abbrev pub letGo : ℕ → ℕ → ℕ
+letGo w waits = cond (eqb waits w) 0 waits
+
+abbrev pub released : ℕ → List ℕ → List ℕ
+released w = map (letGo w)
+
+-- every thread blocked at barrier b is released
+abbrev pub freed : Replay → ℕ → Replay
+freed s b = record { next = s .next; waits = released (b + 1) (s .waits); barriers = s .barriers }

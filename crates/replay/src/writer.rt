@@ -1,0 +1,73 @@
+// The schedule writer: always the lowest allowed thread steps.
+ghost use mathlib.Core.Path.{_≡_};
+ghost use Rattle.replay.specs.Writer.{goesOn, Fits, Filled};
+ghost use Rattle.replay.specs.Doors.{Writes};
+use crate::state::Replay;
+use crate::step::Did;
+use crate::step::How;
+use tables::Verdict;
+use tables::check_tables;
+
+// 1 to 4, or 0 and the length of the schedule that was written.
+pub struct Written {
+    pub verdict: Verdict,
+    pub length: usize,
+}
+
+// Does a step's answer let a schedule go on?
+fn goes_on(did: Did) -> bool
+    ensures { λ r. ⌜ r ≡ goesOn did ⌝ }
+{
+    let Did::Took(how) = did else {
+        return false;
+    };
+    match how {
+        How::Mismatch(_) => false,
+        How::Ran(_, _) => true,
+    }
+}
+
+// The schedule into the room, and its length. No schedule has more than M steps.
+fn write(commands: &[u32], lengths: &[u32], room: &mut [u32]) -> usize
+    requires { ⌜ Fits (now commands) (now lengths) (now room) ⌝ }
+    ensures { λ r. ⌜ Filled (now (commands .entry)) (now (lengths .entry)) (now (room .entry)) (now (room .exit)) r ⌝ }
+{
+    let m = commands.len() / 3;
+    let mut state = Replay::start();
+    let mut steps = 0;
+    while steps < m {
+        let t = state.lowest_allowed(lengths);
+        if t == lengths.len() {
+            return steps;
+        }
+        room[steps] = t as u32;
+        steps += 1;
+        let stepped = state.step(commands, lengths, t);
+        state = stepped.after;
+        let did = stepped.did;
+        if !goes_on(did) {
+            return steps;
+        }
+    }
+    steps
+}
+
+pub fn write_schedule(commands: &[u32], lengths: &[u32], room: &mut [u32]) -> Written
+    ensures { λ r. ⌜ Writes (now (commands .entry)) (now (lengths .entry)) (now (room .entry)) (now (room .exit)) r ⌝ }
+{
+    let verdict = check_tables(commands, lengths);
+    if verdict.number().number != 0 {
+        return Written { verdict, length: 0 };
+    }
+    if room.len() < commands.len() / 3 {
+        return Written {
+            verdict: Verdict::ShortRoom(2),
+            length: 0,
+        };
+    }
+    let length = write(commands, lengths, room);
+    Written {
+        verdict: Verdict::Clean,
+        length,
+    }
+}
