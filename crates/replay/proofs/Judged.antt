@@ -20,8 +20,7 @@ use Rattle.replay.specs.declared.state.Replay.{Replay}
 use Rattle.replay.specs.declared.replay.Replayed.{Replayed}
 use Rattle.replay.specs.Replay.{played}
 use Rattle.replay.specs.Ending.{lowestAllowed, lowestBlocked, lowestSet, ended, judged, Plays}
-use Rattle.replay.specs.declared.offered.Judged.{Judged}
-use Rattle.replay.specs.Doors.{Judges}
+use Rattle.replay.specs.Doors.{Replays}
 use Rattle.replay.proofs.Refusals.{number-is, check-first, check-second}
 use Rattle.replay.proofs.Ties.{ends}
 use Rattle.replay.proofs.Plays.{Ends, through, refused-at, mismatched-at, plays-all, clean-through}
@@ -61,7 +60,7 @@ module _ (commands lengths σ : List ℕ) (v : Verdict) {told : Told} (check : n
   checked-number : told .number ≡ checked commands lengths .number
   checked-number = number-is v said ∙ ap (λ (t : Told). t .number) check
 
-  pub judges-refused : told .number ≢ 0 → Judges commands lengths σ (record { verdict = v; generations = replicate mostRows 0 })
+  pub judges-refused : told .number ≢ 0 → Replays commands lengths σ (record { verdict = v; generations = replicate mostRows 0 })
   judges-refused n =
       record {
         verdict = check-first commands lengths v check said _ n;
@@ -69,7 +68,7 @@ module _ (commands lengths σ : List ℕ) (v : Verdict) {told : Told} (check : n
       }
 
   pub judges-replayed : told .number ≡ 0 → (q : Replayed) → q ≡ played commands lengths σ → (w : Verdict) → numbered w ≡ judged lengths q
-      → Judges commands lengths σ (record { verdict = w; generations = q .generations })
+      → Replays commands lengths σ (record { verdict = w; generations = q .generations })
   judges-replayed e q is w tells =
       record {
         verdict = tells ∙ ap (judged lengths) is ∙ check-second commands lengths v check said _ e;

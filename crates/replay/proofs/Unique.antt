@@ -6,15 +6,14 @@ use Prim.Native.Nat.{ℕ}
 use native.Mathlib.Decide.{ℕ-discrete}
 use lib.ListN.{drop}
 use Rattle.tables.specs.Verdicts.{numbered}
-use Rattle.tables.specs.declared.verdict.Told.{Told}
 use Rattle.tables.specs.declared.verdict.Verdict.{Verdict}
 use Rattle.tables.proofs.Verdicts.{numbered-one}
 use Rattle.replay.specs.declared.offered.Judged.{Judged}
 use Rattle.replay.specs.declared.writer.Written.{Written}
 use Rattle.replay.specs.Writer.{schedule}
-use Rattle.replay.specs.Doors.{Judges, Writes}
+use Rattle.replay.specs.Doors.{Replays, Writes}
 
-pub judge-one : (commands lengths σ : List ℕ) (a b : Judged) → Judges commands lengths σ a → Judges commands lengths σ b → a ≡ b
+pub judge-one : (commands lengths σ : List ℕ) (a b : Judged) → Replays commands lengths σ a → Replays commands lengths σ b → a ≡ b
 judge-one commands lengths σ a b A B =
     ap₂ (λ (v : Verdict) (g : List ℕ). record { verdict = v; generations = g }) (numbered-one _ _ (A .verdict ∙ sym (B .verdict))) (A .generations ∙ sym (B .generations))
 

@@ -8,7 +8,6 @@ use lib.ListN.{length, replicate}
 use Rattle.tables.specs.Limits.{mostRows}
 use Rattle.tables.specs.Rules.{checked}
 use Rattle.tables.specs.Verdicts.{numbered}
-use Rattle.tables.specs.declared.verdict.Told.{Told}
 use Rattle.replay.specs.declared.offered.Judged.{Judged}
 use Rattle.replay.specs.declared.writer.Written.{Written}
 use Rattle.replay.specs.InOrder.{orElse}
@@ -18,7 +17,7 @@ use Rattle.replay.specs.Writer.{schedule, unwritten, Filled}
 use Rattle.replay.specs.Schedules.{Complete}
 
 -- The judge: 1 to 3, then 5 to 9, or 0; and the generations of the commands that ran, where the tables pass.
-pub record Judges (commands lengths schedule : List ℕ) (r : Judged) : Type 0 where
+pub record Replays (commands lengths schedule : List ℕ) (r : Judged) : Type 0 where
   pub verdict : numbered (r .verdict) ≡ orElse (checked commands lengths) (judged lengths (played commands lengths schedule))
   pub generations : r .generations ≡ cond (eqb (checked commands lengths .number) 0) (played commands lengths schedule .generations) (replicate mostRows 0)
 

@@ -2,7 +2,7 @@
 ghost use mathlib.Core.Path.{_≡_};
 ghost use Rattle.tables.specs.Verdicts.{numbered};
 ghost use Rattle.replay.specs.Ending.{judged, Plays};
-ghost use Rattle.replay.specs.Doors.{Judges};
+ghost use Rattle.replay.specs.Doors.{Replays};
 use crate::replay::Replayed;
 use crate::replay::replay;
 use tables::Table;
@@ -29,7 +29,7 @@ fn conclude(replayed: Replayed, lengths: &[u32]) -> Verdict
 
 // Any tables, any schedule: 1 to 3, then 5 to 9, or 0. Nothing is written.
 pub fn judge(commands: &[u32], lengths: &[u32], schedule: &[u32]) -> Judged
-    ensures { λ r. ⌜ Judges (now (commands .entry)) (now (lengths .entry)) (now (schedule .entry)) r ⌝ }
+    ensures { λ r. ⌜ Replays (now (commands .entry)) (now (lengths .entry)) (now (schedule .entry)) r ⌝ }
 {
     let refusal = check_tables(commands, lengths);
     if refusal.number().number != 0 {

@@ -25,20 +25,18 @@ use Rattle.schedules.specs.Order.{Reaches, Reuse, reach}
 use Rattle.schedules.specs.Claims as claims
 use Rattle.schedules.proofs.Tests.{not-matching}
 use Rattle.schedules.proofs.Theorems.{agreement, one-order, real, decided}
-use Rattle.replay.specs.declared.state.Replay.{Replay}
-use Rattle.replay.specs.declared.replay.Replayed.{Replayed}
 use Rattle.review.specs.declared.sheet.Pair.{Pair}
 use Rattle.review.specs.declared.faults.Fault.the-variants as fault
 use Rattle.replay.specs.Step.{allowed}
-use Rattle.replay.specs.Ending.{isBlocked, barrierSet, lowestAllowed, lowestBlocked, lowestSet, lastRun, ended}
+use Rattle.replay.specs.Ending.{isBlocked, barrierSet, lowestAllowed, lowestBlocked, lowestSet, lastRun, ended, judged}
 use Rattle.replay.specs.InOrder.{orElse}
 use Rattle.replay.specs.Replay.{played}
 use Rattle.replay.specs.Program.{program}
 use Rattle.review.specs.Faults.{conflict, race, faults}
-use Rattle.review.specs.Judge.{judged, firstPair, faultTold, generations, reaches}
-use Rattle.replay.specs.Schedules.{Stops, Complete, stopped, mismatched, Clean, Agree, SameOrder, Disagree, unclean}
+use Rattle.review.specs.Judge.{firstPair, faultTold, generations, reaches}
+use Rattle.replay.specs.Schedules.{stateAfter, Stops, Complete, stopped, mismatched, Clean, Agree, Disagree, unclean}
 use Rattle.replay.specs.Schedules as schedules
-use Rattle.review.specs.Agreement.{Judges}
+use Rattle.review.specs.Agreement.{SameOrder, Judges}
 use Rattle.replay.proofs.Programs as programs
 use Rattle.replay.proofs.Plays.{Ends, through, refused-at, mismatched-at, Through, plays-all, clean-through, legal-through}
 use Rattle.replay.proofs.Schedules.{unlike, complete-from, clean-to, generation-is}
@@ -52,9 +50,6 @@ module _ {table lengths : List ℕ} (K : Keeps table lengths) (σ : List ℕ) wh
 
   abbrev H : threads.Threads (program table lengths)
   H = programs.threads K
-
-  abbrev r : Replayed
-  r = played table lengths σ
 
   -- ---- where the offered schedule is not legal and complete, or the schedules do not agree
 
@@ -181,56 +176,53 @@ module _ {table lengths : List ℕ} (K : Keeps table lengths) (σ : List ℕ) wh
 
   -- ---- the offered schedule
 
-  abbrev s : Replay
-  s = played table lengths σ .state
-
   -- the verdict, of tables and rooms that pass refusals 1 to 4
   abbrev pub told : Told
-  told = orElse (judged lengths r) (faultTold table lengths (generations table lengths σ) (reaches table lengths σ))
+  told = orElse (judged lengths (played table lengths σ)) (faultTold table lengths (generations table lengths σ) (reaches table lengths σ))
 
-  not-complete : (v : Verdict) → r .verdict ≡ v → numbered v .number ≢ 0 → numbered v .number ≢ 7 → ¬ Complete table lengths σ
+  not-complete : (v : Verdict) → (played table lengths σ) .verdict ≡ v → numbered v .number ≢ 0 → numbered v .number ≢ 7 → ¬ Complete table lengths σ
   not-complete v e a b (stopped c _) = unlike (sym e ∙ c) a
   not-complete v e a b (mismatched c _) = unlike (sym e ∙ c) b
 
   -- all steps ran: it ended by 6, 8, 9, or clean
-  module _ (c : r .verdict ≡ verdict.Clean) where
-    stops : ltb (lowestAllowed lengths s) (length lengths) ≡ false → Stops table lengths σ
+  module _ (c : (played table lengths σ) .verdict ≡ verdict.Clean) where
+    stops : ltb (lowestAllowed lengths (stateAfter table lengths σ)) (length lengths) ≡ false → Stops table lengths σ
     unfolding allowed
     stops e t =
-        by-cases (decLt t (length lengths)) (λ (l : t < length lengths). lowest-miss (allowed lengths s) (length lengths) e t l)
+        by-cases (decLt t (length lengths)) (λ (l : t < length lengths). lowest-miss (allowed lengths (stateAfter table lengths σ)) (length lengths) e t l)
         (λ (n : ¬ (t < length lengths)). rw (le-ltb t (length lengths) (omega arith)))
 
-    judges-through : (a b d : Bool) → ltb (lowestAllowed lengths s) (length lengths) ≡ a → ltb (lowestBlocked lengths s) (length lengths) ≡ b
-        → ltb (lowestSet s) barriers ≡ d
+    judges-through : (a b d : Bool) → ltb (lowestAllowed lengths (stateAfter table lengths σ)) (length lengths) ≡ a → ltb (lowestBlocked lengths (stateAfter table lengths σ)) (length lengths) ≡ b
+        → ltb (lowestSet (stateAfter table lengths σ)) barriers ≡ d
         → Judges table lengths σ
-        (orElse (cond a (tell 6 (r .steps) 0) (cond b (tell 8 (lastRun lengths s (lowestBlocked lengths s)) 0) (cond d (tell 9 (lowestSet s) 0) (tell 0 0 0))))
+        (orElse (cond a (tell 6 ((played table lengths σ) .steps) 0) (cond b (tell 8 (lastRun lengths (stateAfter table lengths σ) (lowestBlocked lengths (stateAfter table lengths σ))) 0) (cond d (tell 9 (lowestSet (stateAfter table lengths σ)) 0) (tell 0 0 0))))
         (faultTold table lengths (generations table lengths σ) (reaches table lengths σ)) .number)
     judges-through true b d ea eb ed =
-        judges-incomplete 6 (λ C. incomplete C (lowest-hit (allowed lengths s) (length lengths) ea .1)) (inr refl)
+        judges-incomplete 6 (λ C. incomplete C (lowest-hit (allowed lengths (stateAfter table lengths σ)) (length lengths) ea .1)) (inr refl)
       where
-        incomplete : Complete table lengths σ → allowed lengths s (lowestAllowed lengths s) ≡ true → ⊥
-        incomplete (stopped _ stop) h = clashing h (stop (lowestAllowed lengths s))
+        incomplete : Complete table lengths σ → allowed lengths (stateAfter table lengths σ) (lowestAllowed lengths (stateAfter table lengths σ)) ≡ true → ⊥
+        incomplete (stopped _ stop) h = clashing h (stop (lowestAllowed lengths (stateAfter table lengths σ)))
         incomplete (mismatched v _) h = unlike (sym c ∙ v) (λ z. omega arith)
     judges-through false true d ea eb ed =
-        let (l, h) = lowest-hit (isBlocked s) (length lengths) eb in
+        let (l, h) = lowest-hit (isBlocked (stateAfter table lengths σ)) (length lengths) eb in
         judges-disagree 8 (unclean σ (stopped c (stops ea)) (λ C. clashing h (C .unblocked _ l))) (omega arith) (omega arith)
     judges-through false false true ea eb ed =
-        let (l, h) = lowest-hit (barrierSet s) barriers ed in
+        let (l, h) = lowest-hit (barrierSet (stateAfter table lengths σ)) barriers ed in
         judges-disagree 9 (unclean σ (stopped c (stops ea)) (λ C. clashing h (C .unset _ l))) (omega arith) (omega arith)
     judges-through false false false ea eb ed =
         judges-clean
         (record {
           through = c;
           stops = stops ea;
-          unblocked = lowest-miss (isBlocked s) (length lengths) eb;
-          unset = lowest-miss (barrierSet s) barriers ed;
+          unblocked = lowest-miss (isBlocked (stateAfter table lengths σ)) (length lengths) eb;
+          unset = lowest-miss (barrierSet (stateAfter table lengths σ)) barriers ed;
         })
 
   pub judges : Judges table lengths σ (told .number)
   unfolding judged ended
   judges = by (plays-all K σ)
     where
-      by : Ends K σ [] r 0 → Judges table lengths σ (told .number)
+      by : Ends K σ [] (played table lengths σ) 0 → Judges table lengths σ (told .number)
       by (through S G v e) = rw v (judges-through v _ _ _ refl refl refl)
       by (refused-at e nay v) = rw v (judges-incomplete 5 (not-complete _ v (λ z. omega arith) (λ z. omega arith)) (inl refl))
       by (mismatched-at e st m v) = rw v (judges-disagree 7 (shows-mismatch (e .stands .legal) st m) (omega arith) (omega arith))

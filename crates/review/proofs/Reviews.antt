@@ -9,33 +9,30 @@ use native.Mathlib.Decide.{ℕ-discrete}
 use lib.Dec.{ltb}
 use lib.ListN.{length, getD}
 use borrow.Author.Tests.{eq-eqb, ne-eqb, ltb-false}
-use Rattle.tables.specs.Limits.{barriers}
 use Rattle.tables.specs.Rows.{rows}
 use Rattle.tables.specs.Rules.{Keeps, checked}
 use Rattle.tables.specs.Verdicts.{tell, numbered}
 use Rattle.tables.specs.declared.verdict.Told.{Told}
 use Rattle.tables.specs.declared.verdict.Verdict.{Verdict}
-use Rattle.tables.specs.declared.verdict.Verdict.the-variants as verdict
 use Rattle.tables.proofs.Rules.{passes-zero, checked-small}
-use Rattle.tables.proofs.Verdicts.{zero-clean}
 use Rattle.relation.specs.Table.{words, related}
 use Rattle.relation.proofs.Truth.{clashing}
 use Rattle.review.specs.declared.sheet.Pair.{Pair}
-use Rattle.replay.specs.declared.state.Replay.{Replay}
-use Rattle.replay.specs.declared.replay.Replayed.{Replayed}
+use Rattle.replay.specs.declared.offered.Judged.{Judged}
 use Rattle.review.specs.declared.faults.Fault.{Fault}
 use Rattle.review.specs.declared.faults.Fault.the-variants.{Reuse, Race}
 use Rattle.review.specs.declared.judge.Finding.{Finding}
 use Rattle.replay.specs.Replay.{played}
-use Rattle.replay.specs.Ending.{lowestAllowed, lowestBlocked, lowestSet, ended}
+use Rattle.replay.specs.Doors.{Replays}
+use Rattle.replay.specs.Ending.{judged}
 use Rattle.review.specs.Order.{numberAt, put, Reached}
 use Rattle.review.specs.Faults.{faults}
 use Rattle.review.specs.Sheet.{sheetOf}
-use Rattle.review.specs.Judge.{shortRooms, refused, judged, firstPair, faultTold, Filling, generations, reaches, verdictOf, fills, Plays}
+use Rattle.review.specs.Judge.{shortRooms, refused, firstPair, faultTold, Filling, generations, reaches, verdictOf, fills}
 use Rattle.review.specs.Agreement.{number, Judges, Reviewed}
 use Rattle.replay.proofs.Refusals.{or-first, or-second}
-use Rattle.replay.proofs.Ties.{ends}
-use Rattle.replay.proofs.Plays.{Ends, through, refused-at, mismatched-at, plays-all, Through, clean-through}
+use Rattle.replay.proofs.Plays.{Through, clean-through}
+use Rattle.replay.proofs.Judged.{judged-small, clean-verdict}
 use Rattle.review.proofs.Rooms.{put-front, put-beyond, same-reached, related-reaches}
 use Rattle.review.proofs.Pairs.{same-faults}
 use Rattle.review.proofs.Judging.{told, judges}
@@ -44,6 +41,7 @@ use Rattle.review.proofs.Judging.{told, judges}
 
 -- tables and rooms that pass them
 pub record Admitted (commands lengths : List ℕ) (relation generations : ℕ) : Type 0 where
+  pub checks : checked commands lengths .number ≡ 0
   pub keeps : Keeps commands lengths
   pub relation-fits : words (rows commands) ≤ relation
   pub generations-fit : rows commands ≤ generations
@@ -73,10 +71,8 @@ module _ (commands lengths : List ℕ) (relation generations : ℕ) where
       (λ (z : checked commands lengths .number ≡ 0).
       let q : shortRooms (rows commands) relation generations .number ≡ 0 = rw (eq-eqb _ _ z) at e in
       let (a, b) = big-rooms (ltb relation (words (rows commands))) (ltb generations (rows commands)) q in
-      record { keeps = passes-zero commands lengths z; relation-fits = ltb-false _ _ a; generations-fit = ltb-false _ _ b })
+      record { checks = z; keeps = passes-zero commands lengths z; relation-fits = ltb-false _ _ a; generations-fit = ltb-false _ _ b })
       (λ (n : checked commands lengths .number ≢ 0). absurd (n (rw (ne-eqb _ _ n) at e)))
-
--- ---- 5 to 9
 
 -- ---- which verdicts fill the rooms
 
@@ -141,56 +137,64 @@ module _ (commands lengths σ relation room : List ℕ) where
     A : Admitted commands lengths (length relation) (length room)
     A = admitted commands lengths (length relation) (length room) pass
 
-    -- 5 to 9
-    pub reviewed-judged : (v : Verdict) → numbered v ≡ judged lengths (played commands lengths σ) → numbered v .number ≢ 0
-        → Reviewed commands lengths σ relation room (record { verdict = v; sheet = sheetOf [] }) relation room
-    unfolding verdictOf
-    reviewed-judged v e n =
-        unfilled v (e ∙ or-first (judged lengths (played commands lengths σ)) _ (λ z. n (ap (λ (t : Told). t .number) e ∙ z)) ∙ or-second refusal _ pass) n
-        (omega (arith, ap (λ (t : Told). t .number) e, judged-small (A .keeps) σ))
+    -- what the judge says of tables that pass
+    module _ {j : Judged} (J : Replays commands lengths σ j) where
+      told-judged : numbered (j .verdict) ≡ judged lengths (played commands lengths σ)
+      told-judged = J .verdict ∙ sym (or-second (checked commands lengths) (judged lengths (played commands lengths σ)) (A .checks))
 
-    -- 0, 10 and 11
-    module _ (clean : judged lengths (played commands lengths σ) .number ≡ 0) {q : Replayed} (replay : q ≡ played commands lengths σ)
-        {r : Finding} {relation′ room′ : List ℕ} (F : Filling commands lengths (q .generations) relation room r relation′ room′) where
-      is-put : room′ ≡ put (played commands lengths σ .generations) (rows commands) room
-      is-put = F .put-in ∙ ap (λ (q : Replayed). put (q .generations) (rows commands) room) replay
-
-      T : Through (A .keeps) σ
-      T = clean-through (A .keeps) σ (clean-verdict lengths (played commands lengths σ) clean)
-
-      abbrev g : ℕ → ℕ
-      g = generations commands lengths σ
-
-      fits : rows commands ≤ length (played commands lengths σ .generations)
-      fits = omega (arith, A .keeps .few-rows, T .gens .long)
-
-      same : (c : ℕ) → c < rows commands → numberAt room′ c ≡ g c
-      same c l = ap (λ (r : List ℕ). getD r c 0) is-put ∙ put-front (played commands lengths σ .generations) room (rows commands) fits c l
-
-      reached : Reached commands lengths g relation relation′
-      reached = same-reached commands lengths (numberAt room′) g same relation relation′ (F .reached)
-
-      found : (f : Fault) → faults commands lengths (numberAt room′) (related relation′ (rows commands)) f ≡ faults commands lengths g (reaches commands lengths σ) f
-      found = same-faults commands lengths (numberAt room′) g _ _ same (related-reaches commands lengths g relation relation′ reached (A .relation-fits))
-
-      pub reviewed-filled : Reviewed commands lengths σ relation room r relation′ room′
+      -- 5 to 9
+      pub reviewed-judged : numbered (j .verdict) .number ≢ 0
+          → Reviewed commands lengths σ relation room (record { verdict = j .verdict; sheet = sheetOf [] }) relation room
       unfolding verdictOf
-      reviewed-filled =
-          let e : numbered (r .verdict) ≡ faultTold commands lengths g (reaches commands lengths σ) = F .looked .verdict ∙ rw (found Reuse, found Race) in
-          let q : numbered (r .verdict) ≡ verdicts = e ∙ or-second (judged lengths (played commands lengths σ)) _ clean ∙ or-second refusal _ pass in
-          let n : number r ≡ faultTold commands lengths g (reaches commands lengths σ) .number = ap (λ (t : Told). t .number) e in
-          let f : fills (number r) ≡ true = ap fills n ∙ fault-fills (faults commands lengths g (reaches commands lengths σ) Reuse) (faults commands lengths g (reaches commands lengths σ) Race) in
-          record {
-            demand₁ =
-                record {
-                  told = omega (arith, fault-small (faults commands lengths g (reaches commands lengths σ) Reuse) (faults commands lengths g (reaches commands lengths σ) Race));
-                  empty = λ z. clashing f z;
-                  relation-kept = λ z. clashing f z;
-                  room-kept = λ z. clashing f z;
-                  relation-beyond = F .reached .kept;
-                  room-beyond = λ p h. ap (λ (r : List ℕ). getD r p 0) is-put ∙ put-beyond (played commands lengths σ .generations) room (rows commands) fits p h;
-                };
-            demand₂ =
-                record { verdict = q; sheet = λ _. F .looked .sheet ∙ rw (found Reuse, found Race); relation-holds = λ _. reached; room-holds = λ _. is-put };
-            demand₃ = third (r .verdict) q;
-          }
+      reviewed-judged n =
+          let e = told-judged in
+          unfilled (j .verdict) (e ∙ or-first (judged lengths (played commands lengths σ)) _ (λ z. n (ap (λ (t : Told). t .number) e ∙ z)) ∙ or-second refusal _ pass) n
+          (omega (arith, ap (λ (t : Told). t .number) e, judged-small (A .keeps) σ))
+
+      -- 0, 10 and 11
+      module _ (zero : numbered (j .verdict) .number ≡ 0) {r : Finding} {relation′ room′ : List ℕ} (F : Filling commands lengths (j .generations) relation room r relation′ room′) where
+        clean : judged lengths (played commands lengths σ) .number ≡ 0
+        clean = ap (λ (t : Told). t .number) (sym told-judged) ∙ zero
+
+        is-put : room′ ≡ put (played commands lengths σ .generations) (rows commands) room
+        is-put = F .put-in ∙ ap (λ (g : List ℕ). put g (rows commands) room) (J .generations ∙ rw (eq-eqb (checked commands lengths .number) 0 (A .checks)))
+
+        T : Through (A .keeps) σ
+        T = clean-through (A .keeps) σ (clean-verdict lengths (played commands lengths σ) clean)
+
+        abbrev g : ℕ → ℕ
+        g = generations commands lengths σ
+
+        fits : rows commands ≤ length (played commands lengths σ .generations)
+        fits = omega (arith, A .keeps .few-rows, T .gens .long)
+
+        same : (c : ℕ) → c < rows commands → numberAt room′ c ≡ g c
+        same c l = ap (λ (r : List ℕ). getD r c 0) is-put ∙ put-front (played commands lengths σ .generations) room (rows commands) fits c l
+
+        reached : Reached commands lengths g relation relation′
+        reached = same-reached commands lengths (numberAt room′) g same relation relation′ (F .reached)
+
+        found : (f : Fault) → faults commands lengths (numberAt room′) (related relation′ (rows commands)) f ≡ faults commands lengths g (reaches commands lengths σ) f
+        found = same-faults commands lengths (numberAt room′) g _ _ same (related-reaches commands lengths g relation relation′ reached (A .relation-fits))
+
+        pub reviewed-filled : Reviewed commands lengths σ relation room r relation′ room′
+        unfolding verdictOf
+        reviewed-filled =
+            let e : numbered (r .verdict) ≡ faultTold commands lengths g (reaches commands lengths σ) = F .looked .verdict ∙ rw (found Reuse, found Race) in
+            let q : numbered (r .verdict) ≡ verdicts = e ∙ or-second (judged lengths (played commands lengths σ)) _ clean ∙ or-second refusal _ pass in
+            let n : number r ≡ faultTold commands lengths g (reaches commands lengths σ) .number = ap (λ (t : Told). t .number) e in
+            let f : fills (number r) ≡ true = ap fills n ∙ fault-fills (faults commands lengths g (reaches commands lengths σ) Reuse) (faults commands lengths g (reaches commands lengths σ) Race) in
+            record {
+              demand₁ =
+                  record {
+                    told = omega (arith, fault-small (faults commands lengths g (reaches commands lengths σ) Reuse) (faults commands lengths g (reaches commands lengths σ) Race));
+                    empty = λ z. clashing f z;
+                    relation-kept = λ z. clashing f z;
+                    room-kept = λ z. clashing f z;
+                    relation-beyond = F .reached .kept;
+                    room-beyond = λ p h. ap (λ (r : List ℕ). getD r p 0) is-put ∙ put-beyond (played commands lengths σ .generations) room (rows commands) fits p h;
+                  };
+              demand₂ =
+                  record { verdict = q; sheet = λ _. F .looked .sheet ∙ rw (found Reuse, found Race); relation-holds = λ _. reached; room-holds = λ _. is-put };
+              demand₃ = third (r .verdict) q;
+            }

@@ -1,11 +1,9 @@
 -- Any two answers that meet the contract of a review are equal: verdict, sheet and both rooms. Assumes nothing.
 use mathlib.Core.Path.{_≡_, sym, ap, ap₂, _∙_}
-use mathlib.Core.Logic.{⊎-elim, by-cases, _≢_}
+use mathlib.Core.Logic.{⊎-elim}
 use mathlib.Core.Bool.{true, false}
-use mathlib.Core.List.{List, _++_}
+use mathlib.Core.List.{List}
 use Prim.Native.Nat.{ℕ}
-use native.Mathlib.Decide.{ℕ-discrete}
-use lib.ListN.{drop}
 use Rattle.tables.specs.Verdicts.{numbered}
 use Rattle.tables.specs.declared.verdict.Verdict.{Verdict}
 use Rattle.tables.proofs.Verdicts.{numbered-one}
@@ -13,10 +11,8 @@ use Rattle.relation.proofs.Truth.{split}
 use Rattle.relation.proofs.Rooms.{Words, holds-one}
 use Rattle.review.specs.declared.sheet.Sheet.{Sheet}
 use Rattle.review.specs.declared.judge.Finding.{Finding}
-use Rattle.replay.specs.declared.writer.Written.{Written}
 use Rattle.review.specs.Judge.{fills}
-use Rattle.review.specs.Agreement.{number, Reviewed, Writes}
-use Rattle.replay.specs.Writer.{schedule}
+use Rattle.review.specs.Agreement.{number, Reviewed}
 
 module _ (commands lengths σ relation room : List ℕ) (a b : Finding) {ra ga rb gb : List ℕ} (wa : Words ra) (wb : Words rb)
     (A : Reviewed commands lengths σ relation room a ra ga) (B : Reviewed commands lengths σ relation room b rb gb) where

@@ -2,7 +2,8 @@
 use native.Mathlib.Omega.{arith}
 use borrow.Author.Needs.{needs}
 use Rattle.tables.specs.Limits.{mostRows}
-use Rattle.replay.proofs.Refusals.{passed, refuses-tables, refuses-relation, refuses-generations, refuses-none}
+use Rattle.replay.proofs.Refusals.{passed}
+use Rattle.review.proofs.Refusals.{refuses-tables, refuses-relation, refuses-generations, refuses-none}
 use Rattle.review.proofs.judge.refuse.Statement.{statement}
 use Rattle.review.proofs.judge.refuse.Tie as tie
 

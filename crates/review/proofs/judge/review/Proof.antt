@@ -1,6 +1,5 @@
 -- `review` meets its contract: refused and judged before a room is touched, or filled. Assumes nothing.
 use mathlib.Core.Path.{ap, _∙_}
-use native.Mathlib.Omega.{arith}
 use borrow.Author.Needs.{needs}
 use Rattle.review.specs.Judge.{judged}
 use Rattle.replay.proofs.Refusals.{number-is, said-zero}
