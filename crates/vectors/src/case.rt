@@ -6,8 +6,8 @@ use crate::print::verdict;
 use crate::room::least;
 use crate::room::show;
 use crate::room::soil;
+use replay::write_schedule;
 use review::review;
-use review::write_schedule;
 
 // the three rooms are soiled differently
 const RELATION: u32 = 0xDEAD0000;

@@ -1,9 +1,8 @@
 -- `review` meets its contract: refused and judged before a room is touched, or filled. Assumes nothing.
-use mathlib.Core.Path.{ap, _∙_}
+use mathlib.Core.Path.{_≡_, sym, _∙_}
 use borrow.Author.Needs.{needs}
-use Rattle.review.specs.Judge.{judged}
 use Rattle.replay.proofs.Refusals.{number-is, said-zero}
-use Rattle.review.proofs.Reviews.{admitted, judges-replay, reviewed-refused, reviewed-judged, reviewed-filled}
+use Rattle.review.proofs.Reviews.{Admitted, admitted, reviewed-refused, reviewed-judged, reviewed-filled}
 use Rattle.review.proofs.judge.review.Statement.{statement}
 use Rattle.review.proofs.judge.review.Tie as tie
 
@@ -13,35 +12,23 @@ returns c =
     let k = n .before .refuse in
     rw (c .bare .ensures) (reviewed-refused _ _ _ _ _ (k .result) (k .ensures) (λ e. c .before .if1 .taken (number-is (k .result) (n .number .ensures) ∙ e)))
 
-replay-requires : tie.Need-replay-requires
-replay-requires c κs =
-    let n = c .before .before in
-    let k = n .before .refuse in
-    admitted _ _ _ _ (said-zero (k .result) (n .number .ensures) (k .ensures) (c .if1 .left)) .keeps
-
-judge-requires : tie.Need-judge-requires
-judge-requires c κs =
-    let n = c .before .before .before in
-    let k = n .before .refuse in
-    judges-replay (admitted _ _ _ _ (said-zero (k .result) (n .number .ensures) (k .ensures) (c .before .if1 .left)) .keeps) _ (c .replay .ensures)
-
 returns-2 : tie.Need-returns-2
 returns-2 c =
     let m = c .before .before .before in
     let j = m .before .judge in
-    let p = m .before .before in
-    let n = p .before .before .before in
+    let i = m .before .before in
+    let n = i .before .before in
     let k = n .before .refuse in
     rw (c .bare2 .ensures)
-    (reviewed-judged _ _ _ _ _ (said-zero (k .result) (n .number .ensures) (k .ensures) (p .before .if1 .left)) (j .result)
-    (j .ensures ∙ ap (judged _) (p .replay .ensures)) (λ e. c .before .if2 .taken (number-is (j .result) (m .number2 .ensures) ∙ e)))
+    (reviewed-judged _ _ _ _ _ (said-zero (k .result) (n .number .ensures) (k .ensures) (i .if1 .left)) (j .ensures)
+    (λ e. c .before .if2 .taken (number-is (j .result .verdict) (m .number2 .ensures) ∙ e)))
 
 fill-requires : tie.Need-fill-requires
 fill-requires c κs =
-    let p = c .before .before .before .before .before .before .before in
-    let n = p .before .before .before in
+    let i = c .before .before .before .before .before .before .before in
+    let n = i .before .before in
     let k = n .before .refuse in
-    let A = admitted _ _ _ _ (said-zero (k .result) (n .number .ensures) (k .ensures) (p .before .if1 .left)) in
+    let A = admitted _ _ _ _ (said-zero (k .result) (n .number .ensures) (k .ensures) (i .if1 .left)) in
     record { keeps = A .keeps; generations-fit = A .generations-fit; relation-fits = A .relation-fits }
 
 returns-3 : tie.Need-returns-3
@@ -49,11 +36,11 @@ returns-3 c =
     let f = c .before .before .before .before in
     let m = f .before .before .before .before .before .before in
     let j = m .before .judge in
-    let p = m .before .before in
-    let n = p .before .before .before in
+    let i = m .before .before in
+    let n = i .before .before in
     let k = n .before .refuse in
-    reviewed-filled _ _ _ _ _ (said-zero (k .result) (n .number .ensures) (k .ensures) (p .before .if1 .left))
-    (said-zero (j .result) (m .number2 .ensures) (j .ensures ∙ ap (judged _) (p .replay .ensures)) (f .before .before .before .before .if2 .left)) (p .replay .ensures) (f .fill .ensures)
+    reviewed-filled _ _ _ _ _ (said-zero (k .result) (n .number .ensures) (k .ensures) (i .if1 .left)) (j .ensures)
+    (sym (number-is (j .result .verdict) (m .number2 .ensures)) ∙ f .before .before .before .before .if2 .left) (f .fill .ensures)
 
 pub review-spec : {M : Type 1} → statement M
 review-spec =
@@ -63,8 +50,7 @@ review-spec =
     (λ c κs. search needs)
     (λ c κs. search needs)
     returns
-    replay-requires
-    judge-requires
+    (λ c κs. search needs)
     (λ c κs. search needs)
     (λ c κs. search needs)
     returns-2
