@@ -1,8 +1,8 @@
 -- `review` meets its contract: refused and judged before a room is touched, or filled. Assumes nothing.
-use mathlib.Core.Path.{_≡_, sym, _∙_}
+use mathlib.Core.Path.{sym, _∙_}
 use borrow.Author.Needs.{needs}
 use Rattle.replay.proofs.Refusals.{number-is, said-zero}
-use Rattle.review.proofs.Reviews.{Admitted, admitted, reviewed-refused, reviewed-judged, reviewed-filled}
+use Rattle.review.proofs.Reviews.{admitted, reviewed-refused, reviewed-judged, reviewed-filled}
 use Rattle.review.proofs.judge.review.Statement.{statement}
 use Rattle.review.proofs.judge.review.Tie as tie
 
