@@ -1,0 +1,95 @@
+-- Tokens: a longest run of lower-case letters, a longest run of digits, `;`, `||`.
+use mathlib.Core.Path.{_≡_}
+use mathlib.Core.Logic.{_⊎_}
+use mathlib.Core.Bool.{Bool, false, cond, _&&_}
+use mathlib.Core.List.{List, [], _∷_}
+use Prim.Native.Nat.{ℕ, _+_}
+use lib.Dec.{eqb}
+use lib.ListN.{length, getD, take, drop}
+use Rattle.tables.specs.Rows.{read, write, arrive, sync}
+use Rattle.spelling.specs.Bytes.{classOf, is, letter, digit, run, blanks, skip}
+use Rattle.spelling.specs.Words.{alike}
+use Rattle.spelling.specs.Numbers.{numeralOf, Means}
+use Rattle.spelling.specs.declared.number.Numeral.{Numeral}
+use Rattle.spelling.specs.declared.number.Numeral.the-variants as N
+use Rattle.notation.specs.declared.tokens.Token.{Token}
+use Rattle.notation.specs.declared.tokens.Token.the-variants.{Access, Signal, Return, Number, Semi, Bars, Misfit}
+use Rattle.notation.specs.declared.tokens.Piece.{Piece}
+use Rattle.notation.specs.declared.tokens.Met.{Met}
+use Rattle.notation.specs.declared.tokens.Met.the-variants as M
+
+-- the words
+abbrev pub readWord : List ℕ
+readWord = 114 ∷ 101 ∷ 97 ∷ 100 ∷ []
+
+abbrev pub writeWord : List ℕ
+writeWord = 119 ∷ 114 ∷ 105 ∷ 116 ∷ 101 ∷ []
+
+abbrev pub arriveWord : List ℕ
+arriveWord = 97 ∷ 114 ∷ 114 ∷ 105 ∷ 118 ∷ 101 ∷ []
+
+abbrev pub syncWord : List ℕ
+syncWord = 115 ∷ 121 ∷ 110 ∷ 99 ∷ []
+
+abbrev pub returnWord : List ℕ
+returnWord = 114 ∷ 101 ∷ 116 ∷ 117 ∷ 114 ∷ 110 ∷ []
+
+-- the bytes spell the token
+abbrev pub Spelling : List ℕ → Token → Type 0
+Spelling w (Access k) = ((k ≡ read) × (w ≡ readWord)) ⊎ ((k ≡ write) × (w ≡ writeWord))
+Spelling w (Signal k) = ((k ≡ arrive) × (w ≡ arriveWord)) ⊎ ((k ≡ sync) × (w ≡ syncWord))
+Spelling w Return = w ≡ returnWord
+Spelling w (Number n) = Means w n
+Spelling w Semi = w ≡ 59 ∷ []
+Spelling w Bars = w ≡ 124 ∷ 124 ∷ []
+Spelling w Misfit = ⊥
+
+-- a word goes as far as its letters do, a number as far as its digits
+abbrev pub extends : Token → ℕ → Bool
+extends (Access k) b = is letter b
+extends (Signal k) b = is letter b
+extends Return b = is letter b
+extends (Number n) b = is digit b
+extends Semi b = false
+extends Bars b = false
+extends Misfit b = false
+
+-- the token of a run of letters, of a run of digits, and of a list that begins with neither
+unfoldable pub wordOf : List ℕ → Token
+wordOf w =
+    cond (alike w readWord) (Access read)
+    (cond (alike w writeWord) (Access write)
+    (cond (alike w arriveWord) (Signal arrive) (cond (alike w syncWord) (Signal sync) (cond (alike w returnWord) Return Misfit))))
+
+abbrev pub numeral : Numeral → Token
+numeral (N.Number n) = Number n
+numeral N.Unfit = Misfit
+
+abbrev pub numberOf : List ℕ → Token
+numberOf w = numeral (numeralOf w)
+
+abbrev pub sized : Token → ℕ → Piece
+sized t n = record { token = t; size = n }
+
+unfoldable pub markOf : List ℕ → Piece
+markOf s =
+    cond (eqb (getD s 0 0) 59) (sized Semi 1) (cond (eqb (getD s 0 0) 124 && eqb (getD s 1 0) 124) (sized Bars 2) (sized Misfit 1))
+
+-- the token that bytes begin with, and how many bytes it takes
+unfoldable pub pieceOf : List ℕ → Piece
+pieceOf s =
+    cond (is letter (getD s 0 0)) (sized (wordOf (take (run (is letter) s) s)) (run (is letter) s))
+    (cond (is digit (getD s 0 0)) (sized (numberOf (take (run (is digit) s) s)) (run (is digit) s)) (markOf s))
+
+abbrev pub tokenOf : List ℕ → Token
+tokenOf s = pieceOf s .token
+
+abbrev pub sizeOf : List ℕ → ℕ
+sizeOf s = pieceOf s .size
+
+-- what stands at a place after its blanks
+abbrev pub metIn : List ℕ → ℕ → Met
+metIn s from = cond (eqb (length s) 0) (M.End from) (M.Token (tokenOf s) from (from + sizeOf s))
+
+unfoldable pub tokenAt : List ℕ → ℕ → Met
+tokenAt text at = metIn (skip (drop at text)) (at + blanks (drop at text))

@@ -1,0 +1,9 @@
+-- Read in this order: Bytes (classes and runs); Words; Numbers; Tokens (where the tokens of a text begin); Spells (which texts spell which tokens); Machine (the tables
+-- that a reader finds token by token); Refusal (where a text is refused).
+pub mod Bytes
+pub mod Words
+pub mod Numbers
+pub mod Tokens
+pub mod Spells
+pub mod Machine
+pub mod Refusal

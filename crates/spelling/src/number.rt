@@ -1,0 +1,41 @@
+// Numbers in digits.
+ghost use mathlib.Core.Path.{_≡_};
+ghost use Rattle.spelling.specs.Numbers.{numeralOf};
+use crate::bytes::Byte;
+use crate::bytes::class_of;
+
+pub enum Numeral {
+    Number(u32),
+    Unfit,
+}
+
+impl Numeral {
+    // the largest number that is read
+    pub const MOST: u32 = 65535;
+}
+
+// The number that the bytes are. It stops at the digit that passes the limit, so that a run of any length overflows nothing.
+pub fn read_number(bytes: &[u8]) -> Numeral
+    ensures { λ r. ⌜ r ≡ numeralOf (now (bytes .entry)) ⌝ }
+{
+    if bytes.len() == 0 {
+        return Numeral::Unfit;
+    }
+    if (bytes[0] == 48) & (bytes.len() != 1) {
+        return Numeral::Unfit;
+    }
+    let mut value = 0;
+    let mut i = 0;
+    while i < bytes.len() {
+        let byte = bytes[i];
+        if class_of(byte) != Byte::DIGIT {
+            return Numeral::Unfit;
+        }
+        value = value * 10 + (byte - 48) as u32;
+        if Numeral::MOST < value {
+            return Numeral::Unfit;
+        }
+        i += 1;
+    }
+    Numeral::Number(value)
+}
