@@ -1,36 +1,39 @@
+-- `run_of` meets its contract: what the loop has passed and the run from there on are the whole run. Assumes nothing.
+use mathlib.Core.Path.{_≡_, refl, sym, _∙_}
+use Prim.Native.Nat.{_+_, _-_}
+use native.Mathlib.Omega.{arith}
+use lib.ListN.{length, drop}
 use borrow.Author.Needs.{needs}
+use borrow.Author.Tests.{eq-eqb, ne-eqb}
+use Rattle.spelling.specs.Bytes.{is, run}
+use Rattle.spelling.proofs.Scans.{run-on, run-off, run-out}
 use Rattle.spelling.proofs.bytes.run_of.Statement.{statement}
 use Rattle.spelling.proofs.bytes.run_of.Tie as tie
 
 abbrev Inv-loop : tie.InvT-loop
-Inv-loop bytes class i₀ i = ?
+Inv-loop bytes class i₀ i = i + run (is class) (drop i bytes) ≡ run (is class) bytes
 
 abbrev μ-loop : tie.MeasureT-loop
-μ-loop bytes class i₀ i = ?
-
-loop-holds : tie.Need-loop-holds Inv-loop μ-loop
-loop-holds c = search needs
-
-shared-slice-read-class-of : tie.Need-shared-slice-read-class-of Inv-loop μ-loop
-shared-slice-read-class-of c = search needs
-
-class-of-requires : tie.Need-class-of-requires Inv-loop μ-loop
-class-of-requires c κs = search needs
+μ-loop bytes class i₀ i = length bytes - i
 
 returns : tie.Need-returns Inv-loop μ-loop
-returns c = search needs
-
-add-i : tie.Need-add-i Inv-loop μ-loop
-add-i c = search needs
-
-loop-less : tie.Need-loop-less Inv-loop μ-loop
-loop-less c = search needs
+returns c =
+    let k = c .before in
+    let l = k .before .before .before .loop in
+    let a = k .before .before .before .before .before .args in
+    omega (arith, l .inv, run-off (is (a .class)) (a .bytes .now) (l .i) (k .before .before .loop-test .taken) (ne-eqb _ _ (λ e. c .if1 .taken (k .class-of .ensures ∙ e))))
 
 loop-again : tie.Need-loop-again Inv-loop μ-loop
-loop-again c = search needs
+loop-again c =
+    let k = c .before in
+    let l = k .before .before .before .loop in
+    let a = k .before .before .before .before .before .args in
+    omega (arith, l .inv, run-on (is (a .class)) (a .bytes .now) (l .i) (k .before .before .loop-test .taken) (eq-eqb _ _ (sym (k .class-of .ensures) ∙ c .if1 .left)))
 
 returns-2 : tie.Need-returns-2 Inv-loop μ-loop
-returns-2 c = search needs
+returns-2 c =
+    let a = c .before .before .before .args in
+    omega (arith, c .before .loop .inv, run-out (is (a .class)) (a .bytes .now) (c .before .loop .i) (c .loop-test .left))
 
 pub run-of-spec : {M : Type 1} → statement M
 run-of-spec =
@@ -38,11 +41,11 @@ run-of-spec =
     (tie.spec
     Inv-loop
     μ-loop
-    loop-holds
-    shared-slice-read-class-of
-    class-of-requires
+    (λ c. omega arith)
+    (λ c. search needs)
+    (λ c κs. search needs)
     returns
-    add-i
-    loop-less
+    (λ c. search needs)
+    (λ c. search needs)
     loop-again
     returns-2)

@@ -1,60 +1,92 @@
+-- `read_number` meets its contract: the bytes that the loop has passed are digits, of the value it holds. Assumes nothing.
+use mathlib.Core.Path.{_≡_, refl, sym, ap, _∙_}
+use Prim.Native.Nat.{ℕ, _+_, _-_, _*_, _≤_}
+use native.Mathlib.Omega.{arith}
+use lib.ListN.{length, drop, getD}
 use borrow.Author.Needs.{needs}
+use borrow.Author.Tests.{eq-eqb, ne-eqb}
+use Rattle.spelling.specs.declared.number.Numeral.the-variants.{Number}
+use Rattle.spelling.specs.Bytes.{is, digit, run}
+use Rattle.spelling.specs.Numbers.{mostNumber, decimal}
+use Rattle.spelling.proofs.Scans.{run-on, run-off, run-out}
+use Rattle.spelling.proofs.Numbers.{none-unfit, leading-unfit, other-unfit, large-unfit, number-is, digit-range, decimal-grows, decimal-on, decimal-out}
 use Rattle.spelling.proofs.number.read_number.Statement.{statement}
 use Rattle.spelling.proofs.number.read_number.Tie as tie
 
 abbrev Inv-loop : tie.InvT-loop
-Inv-loop bytes value₀ i₀ value i = ?
+Inv-loop bytes value₀ i₀ value i =
+    (i ≤ length bytes) × (i + run (is digit) (drop i bytes) ≡ run (is digit) bytes) × (decimal value (drop i bytes) ≡ decimal 0 bytes) × (value ≤ mostNumber)
 
 abbrev μ-loop : tie.MeasureT-loop
-μ-loop bytes value₀ i₀ value i = ?
+μ-loop bytes value₀ i₀ value i = length bytes - i
 
 returns : tie.Need-returns Inv-loop μ-loop
-returns c = search needs
-
-shared-slice-read-if2 : tie.Need-shared-slice-read-if2 Inv-loop μ-loop
-shared-slice-read-if2 c = search needs
+returns c = sym (none-unfit _ (c .if1 .taken))
 
 returns-2 : tie.Need-returns-2 Inv-loop μ-loop
-returns-2 c = search needs
+returns-2 c = sym (leading-unfit _ (c .if2 .taken))
 
 loop-holds : tie.Need-loop-holds Inv-loop μ-loop
-loop-holds c = search needs
+loop-holds c = (omega arith, omega arith, refl, omega arith)
 
-shared-slice-read-byte : tie.Need-shared-slice-read-byte Inv-loop μ-loop
-shared-slice-read-byte c = search needs
-
-class-of-requires : tie.Need-class-of-requires Inv-loop μ-loop
-class-of-requires c κs = search needs
-
+-- a byte that is no digit
 returns-3 : tie.Need-returns-3 Inv-loop μ-loop
-returns-3 c = search needs
+returns-3 c =
+    let k = c .before in
+    let l = k .before .before .before .loop in
+    let w = k .before .before .before .before .before .before .before .before .args .bytes .now in
+    let h = k .before .before .loop-test .taken in
+    sym (other-unfit w (λ e. omega (arith, l .inv .1, h, e, run-off (is digit) w (l .i) h (ne-eqb _ _ (λ q. c .if3 .taken (k .class-of .ensures ∙ q))))))
 
+-- the byte that the loop reads is a digit
 mul-value : tie.Need-mul-value Inv-loop μ-loop
-mul-value c = search needs
+unfolding mostNumber
+mul-value c = let l = c .before .before .before .before .loop in omega (arith, l .inv .3)
 
 sub-value : tie.Need-sub-value Inv-loop μ-loop
-sub-value c = search needs
+sub-value c = digit-range _ (sym (c .before .class-of .ensures) ∙ c .if3 .left) .0
 
 cast-value : tie.Need-cast-value Inv-loop μ-loop
-cast-value c = search needs
+cast-value c = let d = digit-range _ (sym (c .before .class-of .ensures) ∙ c .if3 .left) in omega (arith, d .0, d .1)
 
 add-value : tie.Need-add-value Inv-loop μ-loop
-add-value c = search needs
+unfolding mostNumber
+add-value c =
+    let k = c .before in
+    let l = k .before .before .before .loop in
+    let d = digit-range _ (sym (k .class-of .ensures) ∙ c .if3 .left) in
+    omega (arith, l .inv .3, d .0, d .1)
 
 returns-4 : tie.Need-returns-4 Inv-loop μ-loop
-returns-4 c = search needs
-
-add-i : tie.Need-add-i Inv-loop μ-loop
-add-i c = search needs
-
-loop-less : tie.Need-loop-less Inv-loop μ-loop
-loop-less c = search needs
+unfolding mostNumber
+returns-4 c =
+    let k = c .before .before in
+    let l = k .before .before .before .loop in
+    let w = k .before .before .before .before .before .before .before .before .args .bytes .now in
+    let h = k .before .before .loop-test .taken in
+    sym (large-unfit w (omega (arith, c .if4 .taken, l .inv .2, decimal-on (l .value) w (l .i) h, decimal-grows (drop (l .i + 1) w) (l .value * 10 + (getD w (l .i) 0 - 48)))))
 
 loop-again : tie.Need-loop-again Inv-loop μ-loop
-loop-again c = search needs
+unfolding mostNumber
+loop-again c =
+    let k = c .before .before in
+    let l = k .before .before .before .loop in
+    let w = k .before .before .before .before .before .before .before .before .args .bytes .now in
+    let h = k .before .before .loop-test .taken in (
+      omega (arith, h),
+      omega (arith, l .inv .1, run-on (is digit) w (l .i) h (eq-eqb _ _ (sym (k .class-of .ensures) ∙ c .before .if3 .left))),
+      sym (decimal-on (l .value) w (l .i) h) ∙ l .inv .2,
+      omega (arith, c .if4 .left),
+    )
 
 returns-5 : tie.Need-returns-5 Inv-loop μ-loop
-returns-5 c = search needs
+returns-5 c =
+    let l = c .before .loop in
+    let w = c .before .before .before .before .before .before .args .bytes .now in
+    let v : l .value ≡ decimal 0 w = sym (decimal-out (l .value) w (l .i) (c .loop-test .left)) ∙ l .inv .2 in
+    ap Number v ∙ sym (number-is w
+    (omega (arith, l .inv .0, l .inv .1, c .loop-test .left, run-out (is digit) w (l .i) (c .loop-test .left)))
+    (omega (arith, c .before .before .before .before .if1 .left)) (c .before .before .if2 .left) (omega (arith, v, l .inv .3)))
 
 pub read-number-spec : {M : Type 1} → statement M
 read-number-spec =
@@ -63,18 +95,18 @@ read-number-spec =
     Inv-loop
     μ-loop
     returns
-    shared-slice-read-if2
+    (λ c. search needs)
     returns-2
     loop-holds
-    shared-slice-read-byte
-    class-of-requires
+    (λ c. search needs)
+    (λ c κs. search needs)
     returns-3
     mul-value
     sub-value
     cast-value
     add-value
     returns-4
-    add-i
-    loop-less
+    (λ c. search needs)
+    (λ c. search needs)
     loop-again
     returns-5)

@@ -1,39 +1,37 @@
+-- `same` meets its contract: the bytes that the loop has passed are those of the word. Assumes nothing.
+use mathlib.Core.Path.{_≡_, refl, sym, _∙_}
+use Prim.Native.Nat.{_-_, _≤_}
+use native.Mathlib.Omega.{arith}
+use lib.ListN.{length, drop}
 use borrow.Author.Needs.{needs}
+use Rattle.spelling.specs.Words.{alike}
+use Rattle.spelling.proofs.Words.{alike-long, alike-on, alike-off, alike-out}
 use Rattle.spelling.proofs.word.same.Statement.{statement}
 use Rattle.spelling.proofs.word.same.Tie as tie
 
 abbrev Inv-loop : tie.InvT-loop
-Inv-loop bytes word i₀ i = ?
+Inv-loop bytes word i₀ i = alike (drop i bytes) (drop i word) ≡ alike bytes word
 
 abbrev μ-loop : tie.MeasureT-loop
-μ-loop bytes word i₀ i = ?
+μ-loop bytes word i₀ i = length bytes - i
 
 returns : tie.Need-returns Inv-loop μ-loop
-returns c = search needs
-
-loop-holds : tie.Need-loop-holds Inv-loop μ-loop
-loop-holds c = search needs
-
-shared-slice-read-if2 : tie.Need-shared-slice-read-if2 Inv-loop μ-loop
-shared-slice-read-if2 c = search needs
-
-shared-slice-read-if2-2 : tie.Need-shared-slice-read-if2-2 Inv-loop μ-loop
-shared-slice-read-if2-2 c = search needs
+returns c = sym (alike-long _ _ (c .if1 .taken))
 
 returns-2 : tie.Need-returns-2 Inv-loop μ-loop
-returns-2 c = search needs
-
-add-i : tie.Need-add-i Inv-loop μ-loop
-add-i c = search needs
-
-loop-less : tie.Need-loop-less Inv-loop μ-loop
-loop-less c = search needs
+returns-2 c =
+    let l = c .before .before .before .before .loop in
+    sym (sym (l .inv) ∙ alike-off _ _ (l .i) (search needs) (search needs) (c .if2 .taken))
 
 loop-again : tie.Need-loop-again Inv-loop μ-loop
-loop-again c = search needs
+loop-again c =
+    let l = c .before .before .before .before .loop in
+    sym (alike-on _ _ (l .i) (search needs) (search needs) (c .if2 .left)) ∙ l .inv
 
 returns-3 : tie.Need-returns-3 Inv-loop μ-loop
-returns-3 c = search needs
+returns-3 c =
+    let l = c .before .loop in
+    sym (sym (l .inv) ∙ alike-out _ _ (l .i) (search needs) (search needs))
 
 pub same-spec : {M : Type 1} → statement M
 same-spec =
@@ -42,11 +40,11 @@ same-spec =
     Inv-loop
     μ-loop
     returns
-    loop-holds
-    shared-slice-read-if2
-    shared-slice-read-if2-2
+    (λ c. refl)
+    (λ c. search needs)
+    (λ c. search needs)
     returns-2
-    add-i
-    loop-less
+    (λ c. search needs)
+    (λ c. search needs)
     loop-again
     returns-3)
