@@ -94,6 +94,12 @@ restOf (Unfit p) text = drop p text
 restOf Over text = []
 restOf (Accepted m t) text = []
 
+-- what the writing pass asks: few rows, and rooms that hold the tables
+pub record Rooms (text commands lengths : List ℕ) : Type 0 where
+  pub few : length (readOf text .rows) ≤ mostRows
+  pub rows : length (rowNumbers text) ≤ length commands
+  pub lens : length (threadLengths text) ≤ length lengths
+
 -- a program within the limits of a reading
 pub record Within (text : List ℕ) (c l : ℕ) (x : Program) : Type 0 where
   pub bytes : length text ≤ mostBytes

@@ -90,7 +90,7 @@ fn mark(bytes: &[u8]) -> Piece
 }
 
 // The token that the bytes begin with.
-fn piece(bytes: &[u8]) -> Piece
+fn first_token(bytes: &[u8]) -> Piece
     requires { ⌜ 0 < length (now bytes) ⌝ }
     ensures { λ r. ⌜ r ≡ pieceOf (now (bytes .entry)) ⌝ }
 {
@@ -116,7 +116,7 @@ pub(crate) fn token_at(text: &[u8], at: usize) -> Met
     if from == text.len() {
         return Met::End(from);
     }
-    let piece = piece(&text[from..]);
+    let piece = first_token(&text[from..]);
     let token = piece.token;
     Met::Token(token, from, from + piece.size)
 }
