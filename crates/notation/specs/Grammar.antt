@@ -24,10 +24,10 @@ unfoldable pub threadTokens : List Command → List Token
 threadTokens [] = Return ∷ []
 threadTokens (c ∷ cs) = commandTokens c ++ threadTokens cs
 
--- threads are parted by `||`
-unfoldable pub parted : List Command → List (List Command) → List Token
-parted t [] = threadTokens t
-parted t (u ∷ us) = threadTokens t ++ (Bars ∷ parted u us)
+-- threads are parted by `||`: each but the first stands behind one
+unfoldable pub behind : List (List Command) → List Token
+behind [] = []
+behind (t ∷ ts) = Bars ∷ (threadTokens t ++ behind ts)
 
 -- a program: its first thread, and the others
 pub record Program : Type 0 where
@@ -35,7 +35,7 @@ pub record Program : Type 0 where
   pub others : List (List Command)
 
 abbrev pub programTokens : Program → List Token
-programTokens x = parted (x .first) (x .others)
+programTokens x = threadTokens (x .first) ++ behind (x .others)
 
 -- the tokens of a program
 abbrev pub Whole : List Token → Type 0

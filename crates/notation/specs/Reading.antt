@@ -1,7 +1,7 @@
 -- What a reading answers, and what the lent tables then hold.
 use mathlib.Core.Path.{_≡_}
 use mathlib.Core.Bool.{Bool, cond, _||_}
-use mathlib.Core.List.{List, [], _++_}
+use mathlib.Core.List.{List, []}
 use mathlib.Core.Option.{Option, none, some}
 use Prim.Native.Nat.{ℕ, _≤_, _*_}
 use lib.Dec.{ltb}
@@ -12,6 +12,7 @@ use Rattle.tables.specs.declared.verdict.Told.{Told}
 use Rattle.spelling.specs.Tokens as T
 use Rattle.spelling.specs.Machine.{Outcome, found, flat}
 use Rattle.spelling.specs.Refusal as R
+use Rattle.spelling.specs.Over.{over}
 use Rattle.notation.specs.declared.tokens.Token.{Token}
 use Rattle.notation.specs.declared.automaton.State.the-variants.{Command}
 use Rattle.notation.specs.declared.reading.Judged.{Judged}
@@ -77,10 +78,6 @@ answerOf (Passed m t) c l = cond (tooMany m t c l) (answer (tell 13 0 0) 0 0) (a
 -- 13 for too many bytes is tested first; for all else only after the whole text has passed 12
 unfoldable pub reading : List ℕ → ℕ → ℕ → Answer
 reading text c l = cond (ltb mostBytes (length text)) (answer (tell 13 0 0) 0 0) (answerOf (judgedOf text) c l)
-
--- a list with its first places overwritten
-abbrev pub over : List ℕ → List ℕ → List ℕ
-over new old = new ++ drop (length new) old
 
 -- a table is written in its first places where the reading is accepted, and untouched otherwise
 abbrev pub written : Reading → List ℕ → List ℕ → List ℕ

@@ -1,6 +1,9 @@
 // A text read into the two tables: a pass that judges it and writes nothing, and, where it passes, a pass that writes.
 ghost use mathlib.Core.Path.{_≡_};
-ghost use Rattle.notation.specs.Reading.{judgedOf, rowNumbers, threadLengths, over, Rooms, Read, restOf};
+ghost use Prim.Native.Nat.{_+_, _≤_};
+ghost use lib.ListN.{length, set};
+ghost use Rattle.notation.specs.Reading.{judgedOf, rowNumbers, threadLengths, Rooms, Read, restOf};
+ghost use Rattle.spelling.specs.Over.{over};
 use crate::automaton::Moved;
 use crate::automaton::State;
 use crate::automaton::ends;
@@ -67,6 +70,15 @@ fn judge(text: &[u8]) -> Judged
     }
 }
 
+fn put_row(commands: &mut [u32], at: usize, kind: u32, name: u32, count: u32)
+    requires { ⌜ at + 3 ≤ length (now commands) ⌝ }
+    ensures { λ _. ⌜ now (commands .exit) ≡ set (set (set (now (commands .entry)) at kind) (at + 1) name) (at + 2) count ⌝ }
+{
+    commands[at] = kind;
+    commands[at + 1] = name;
+    commands[at + 2] = count;
+}
+
 // The tables of a text that passed, into rooms that hold them.
 fn write(text: &[u8], commands: &mut [u32], lengths: &mut [u32])
     requires { ⌜ Rooms (now text) (now commands) (now lengths) ⌝ }
@@ -89,9 +101,7 @@ fn write(text: &[u8], commands: &mut [u32], lengths: &mut [u32])
                 state = expected;
             }
             Moved::Row(kind, name, count) => {
-                commands[numbers] = kind;
-                commands[numbers + 1] = name;
-                commands[numbers + 2] = count;
+                put_row(commands, numbers, kind, name, count);
                 numbers += 3;
                 length += 1;
                 state = State::Close;

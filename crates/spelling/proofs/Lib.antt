@@ -2,3 +2,4 @@
 pub mod Scans
 pub mod Words
 pub mod Numbers
+pub mod Filling

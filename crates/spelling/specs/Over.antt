@@ -1,0 +1,8 @@
+-- A room whose first places are overwritten.
+use mathlib.Core.List.{List, _++_}
+use Prim.Native.Nat.{ℕ}
+use lib.ListN.{length, drop}
+
+-- the new numbers stand first, and the rest is kept
+abbrev pub over : List ℕ → List ℕ → List ℕ
+over new old = new ++ drop (length new) old
