@@ -1,2 +1,4 @@
--- Read in this order: Programs (what is found in a program's tokens).
+-- Read in this order: Programs (what is found in a program's tokens); Along (what is found from a place of a text on).
+pub mod Lexes
 pub mod Programs
+pub mod Along

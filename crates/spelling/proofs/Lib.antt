@@ -1,5 +1,12 @@
--- Read in this order: Scans (the laws behind the loops); Words; Numbers.
+-- Read in this order: Scans (the laws behind the loops); Words; Numbers; Filling (a room filled from the front); Runs; Laws (what a notation must show); Cuts (the
+-- tokens of a text one after another); Spelt (the tokens are those that the bytes spell); Machines (where a reader stops); Refusals (it stops where it should).
 pub mod Scans
 pub mod Words
 pub mod Numbers
 pub mod Filling
+pub mod Runs
+pub mod Laws
+pub mod Cuts
+pub mod Spelt
+pub mod Machines
+pub mod Refusals

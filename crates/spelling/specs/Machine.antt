@@ -39,14 +39,14 @@ abbrev pub further : Option ℕ → Option ℕ
 further none = none
 further (some i) = some (suc i)
 
-module _ {S T : Type 0} (next : S → T → Move S) (ends : S → Bool) where
-  -- a token's move, with n rows of its thread so far; f finds the rest
-  abbrev pub moved : Move S → ℕ → (S → ℕ → Outcome) → Outcome
-  moved refuse n f = outcome [] [] (some 0)
-  moved (on s) n f = outcome (f s n .rows) (f s n .lengths) (further (f s n .stop))
-  moved (rows r s) n f = outcome (r ∷ f s (suc n) .rows) (f s (suc n) .lengths) (further (f s (suc n) .stop))
-  moved (thread s) n f = outcome (f s 0 .rows) (n ∷ f s 0 .lengths) (further (f s 0 .stop))
+-- a token's move, with n rows of its thread so far; f finds the rest
+abbrev pub moved : {S : Type 0} → Move S → ℕ → (S → ℕ → Outcome) → Outcome
+moved refuse n f = outcome [] [] (some 0)
+moved (on s) n f = outcome (f s n .rows) (f s n .lengths) (further (f s n .stop))
+moved (rows r s) n f = outcome (r ∷ f s (suc n) .rows) (f s (suc n) .lengths) (further (f s (suc n) .stop))
+moved (thread s) n f = outcome (f s 0 .rows) (n ∷ f s 0 .lengths) (further (f s 0 .stop))
 
-  unfoldable pub found : List T → S → ℕ → Outcome
-  found [] s n = outcome [] [] (cond (ends s) none (some 0))
-  found (t ∷ ts) s n = moved (next s t) n (found ts)
+-- what is found in tokens, from a state
+unfoldable pub found : {S T : Type 0} (next : S → T → Move S) (ends : S → Bool) → List T → S → ℕ → Outcome
+found next ends [] s n = outcome [] [] (cond (ends s) none (some 0))
+found next ends (t ∷ ts) s n = moved (next s t) n (found next ends ts)

@@ -1,0 +1,142 @@
+-- The tokens of a text one after another: where each begins, and that the fuel never runs out. Assumes nothing.
+use mathlib.Core.Path.{_≡_, refl, sym, ap, _∙_}
+use mathlib.Core.Logic.{by-cases}
+use mathlib.Core.Bool.{Bool, true, false, cond}
+use mathlib.Core.List.{List, [], _∷_, map}
+use Prim.Native.Nat.{ℕ, zero, suc, _+_, _≤_, _<_}
+use native.Mathlib.Decide.{decLt}
+use native.Mathlib.Omega.{arith}
+use lib.Dec.{eqb}
+use lib.ListN.{length, drop, length-drop}
+use lib.Seq.{drop-drop}
+use borrow.Author.Tests.{eq-eqb, ne-eqb, eqb-false}
+use Rattle.spelling.specs.Bytes.{is, blank, blanks, skip}
+use Rattle.spelling.specs.Tokens.{Cut, cut, later, cutsN, cuts, starts, tokens}
+use Rattle.spelling.proofs.Runs.{run-le}
+
+same-rest : {A B : Type 0} (g : A → B) (b : Bool) (z x y : A) → (b ≡ false → g x ≡ g y) → g (cond b z x) ≡ g (cond b z y)
+same-rest g true z x y f = refl
+same-rest g false z x y f = f refl
+
+length-map : {A B : Type 0} (f : A → B) (l : List A) → length (map f l) ≡ length l
+length-map f [] = refl
+length-map f (x ∷ l) = ap suc (length-map f l)
+
+pub length-skip : (s : List ℕ) → blanks s + length (skip s) ≡ length s
+length-skip s = omega (arith, length-drop (blanks s) s, run-le (is blank) s)
+
+module _ (size : List ℕ → ℕ) (pos : (s : List ℕ) → 0 < length s → 0 < size s) (most : (s : List ℕ) → 0 < length s → size s ≤ length s) where
+  -- how much a token leaves
+  pub length-later : (s : List ℕ) → 0 < length (skip s) → blanks s + size (skip s) + length (later size s) ≡ length s
+  length-later s h = omega (arith, length-skip s, length-drop (size (skip s)) (skip s), most (skip s) h)
+
+  shorter : (s : List ℕ) → eqb (length (skip s)) 0 ≡ false → length (later size s) < length s
+  shorter s e =
+      let h : 0 < length (skip s) = omega (arith, eqb-false (length (skip s)) 0 e) in
+      omega (arith, length-later s h, pos (skip s) h)
+
+  cuts-empty : (n : ℕ) (s : List ℕ) (p : ℕ) → length s ≤ 0 → cutsN size n s p ≡ []
+  unfolding cutsN
+  cuts-empty zero s p h = refl
+  cuts-empty (suc n) s p h = rw (eq-eqb (length (skip s)) 0 (omega (arith, length-skip s)))
+
+  -- fuel for the later tokens is all that counts
+  fuel-step : (n m : ℕ) (s : List ℕ) (p : ℕ)
+      → (eqb (length (skip s)) 0 ≡ false
+      → cutsN size n (later size s) (p + blanks s + size (skip s)) ≡ cutsN size m (later size s) (p + blanks s + size (skip s)))
+      → cutsN size (suc n) s p ≡ cutsN size (suc m) s p
+  unfolding cutsN
+  fuel-step n m s p f =
+      same-rest (λ (l : List Cut). l) (eqb (length (skip s)) 0) [] _ _ (λ e. ap (λ (l : List Cut). cut (p + blanks s) (skip s) ∷ l) (f e))
+
+  pub cuts-fuel : (n m : ℕ) (s : List ℕ) (p : ℕ) → length s ≤ n → length s ≤ m → cutsN size n s p ≡ cutsN size m s p
+  cuts-fuel zero m s p h g = cuts-empty zero s p h ∙ sym (cuts-empty m s p h)
+  cuts-fuel (suc n) zero s p h g = cuts-empty (suc n) s p g ∙ sym (cuts-empty zero s p g)
+  cuts-fuel (suc n) (suc m) s p h g =
+      fuel-step n m s p (λ e. cuts-fuel n m (later size s) _ (omega (arith, shorter s e)) (omega (arith, shorter s e)))
+
+  -- the first token and the others, or none
+  cuts-step : (s : List ℕ) (p : ℕ) → cuts size s p ≡ cutsN size (suc (length (later size s))) s p
+  cuts-step s p =
+      cuts-fuel (length s) (suc (length s)) s p (omega arith) (omega arith)
+      ∙ fuel-step (length s) (length (later size s)) s p
+      (λ e. cuts-fuel (length s) (length (later size s)) (later size s) _ (omega (arith, shorter s e)) (omega arith))
+
+  pub cuts-end : (s : List ℕ) (p : ℕ) → length (skip s) ≡ 0 → cuts size s p ≡ []
+  unfolding cutsN
+  cuts-end s p e = cuts-step s p ∙ rw (eq-eqb (length (skip s)) 0 e)
+
+  pub cuts-on : (s : List ℕ) (p : ℕ) → 0 < length (skip s)
+      → cuts size s p ≡ cut (p + blanks s) (skip s) ∷ cuts size (later size s) (p + blanks s + size (skip s))
+  unfolding cutsN
+  cuts-on s p h = cuts-step s p ∙ rw (ne-eqb (length (skip s)) 0 (λ e. omega arith))
+
+  pub starts-end : (s : List ℕ) (p : ℕ) → length (skip s) ≡ 0 → starts size s p ≡ []
+  starts-end s p e = ap (map (λ (c : Cut). c .place)) (cuts-end s p e)
+
+  pub starts-on : (s : List ℕ) (p : ℕ) → 0 < length (skip s)
+      → starts size s p ≡ (p + blanks s) ∷ starts size (later size s) (p + blanks s + size (skip s))
+  starts-on s p h = ap (map (λ (c : Cut). c .place)) (cuts-on s p h)
+
+  module _ {T : Type 0} (token : List ℕ → T) where
+    abbrev tok : Cut → T
+    tok c = token (c .bytes)
+
+    -- the tokens do not depend on the place
+    anywhere : (n : ℕ) (s : List ℕ) (p q : ℕ) → map tok (cutsN size n s p) ≡ map tok (cutsN size n s q)
+    unfolding cutsN
+    anywhere zero s p q = refl
+    anywhere (suc n) s p q =
+        same-rest (map tok) (eqb (length (skip s)) 0) [] _ _ (λ e. ap (λ (l : List T). token (skip s) ∷ l) (anywhere n (later size s) _ _))
+
+    pub tokens-anywhere : (s : List ℕ) (p : ℕ) → map (λ (c : Cut). token (c .bytes)) (cuts size s p) ≡ tokens size token s
+    tokens-anywhere s p = anywhere (length s) s p 0
+
+    pub starts-tokens : (s : List ℕ) (p : ℕ) → length (starts size s p) ≡ length (tokens size token s)
+    starts-tokens s p =
+        length-map (λ (c : Cut). c .place) (cuts size s p) ∙ sym (length-map tok (cuts size s p)) ∙ ap length (tokens-anywhere s p)
+
+    pub tokens-end : (s : List ℕ) → length (skip s) ≡ 0 → tokens size token s ≡ []
+    tokens-end s e = ap (map tok) (cuts-end s 0 e)
+
+    pub tokens-on : (s : List ℕ) → 0 < length (skip s) → tokens size token s ≡ token (skip s) ∷ tokens size token (later size s)
+    tokens-on s h = ap (map tok) (cuts-on s 0 h) ∙ ap (λ (l : List T). token (skip s) ∷ l) (tokens-anywhere (later size s) _)
+
+    -- nor on the blanks before them
+    pub tokens-skip : (s r : List ℕ) → skip s ≡ skip r → tokens size token s ≡ tokens size token r
+    tokens-skip s r e =
+        by-cases (decLt 0 (length (skip s)))
+        (λ (h : 0 < length (skip s)).
+        tokens-on s h ∙ ap (λ (u : List ℕ). token u ∷ tokens size token (drop (size u) u)) e ∙ sym (tokens-on r (rw e at h)))
+        (λ (n : ¬ (0 < length (skip s))). tokens-end s (omega arith) ∙ sym (tokens-end r (omega (arith, ap length e))))
+
+  -- along a text, from place at
+  module _ (text : List ℕ) (at : ℕ) where
+    abbrev rest : List ℕ
+    rest = drop at text
+
+    abbrev next : ℕ
+    next = at + blanks rest + size (skip rest)
+
+    later-rest : later size rest ≡ drop next text
+    later-rest = ap (drop (size (skip rest))) (drop-drop (blanks rest) at text) ∙ drop-drop (size (skip rest)) (at + blanks rest) text
+
+    pub end-place : at ≤ length text → length (skip rest) ≡ 0 → at + blanks rest ≡ length text
+    end-place l e = omega (arith, length-skip rest, length-drop at text)
+
+    pub next-place : at ≤ length text → 0 < length (skip rest) → (at < next) × (next ≤ length text) × (at < length text)
+    next-place l h =
+        let k = length-later rest h in
+        let d = length-drop at text in
+        let o = pos (skip rest) h in
+        (omega arith, omega arith, omega arith)
+
+    pub cuts-next : 0 < length (skip rest) → cuts size rest at ≡ cut (at + blanks rest) (skip rest) ∷ cuts size (drop next text) next
+    cuts-next h = rw later-rest at (cuts-on rest at h)
+
+    pub starts-next : 0 < length (skip rest) → starts size rest at ≡ (at + blanks rest) ∷ starts size (drop next text) next
+    starts-next h = rw later-rest at (starts-on rest at h)
+
+    pub tokens-next : {T : Type 0} (token : List ℕ → T) → 0 < length (skip rest)
+        → tokens size token rest ≡ token (skip rest) ∷ tokens size token (drop next text)
+    tokens-next token h = rw later-rest at (tokens-on token rest h)
