@@ -1,0 +1,191 @@
+-- What a reading answers is what the grammar says of the text; and no other answer meets the promise. Assumes nothing.
+use mathlib.Core.Path.{_≡_, refl, ap, sym, subst, _∙_}
+use mathlib.Core.Logic.{_⊎_, inl, inr}
+use mathlib.Core.Bool.{Bool, true, false, cond, _||_, true≢false}
+use mathlib.Core.List.{List, [], _∷_, map}
+use mathlib.Core.Option.{Option, none, some}
+use Prim.Native.Nat.{ℕ, _*_, _≤_, _<_}
+use native.Mathlib.Omega.{arith}
+use lib.Dec.{ltb}
+use lib.ListN.{length, length-map}
+use borrow.Author.Tests.{lt-ltb, le-ltb, ltb-true, ltb-false}
+use Rattle.tables.specs.Limits.{mostRows, mostThreads}
+use Rattle.spelling.specs.Machine.{Outcome, outcome, found, flat}
+use Rattle.spelling.specs.Over.{over}
+use Rattle.spelling.proofs.Spelt.{spelt-tokens}
+use Rattle.spelling.proofs.Refusals as R
+use Rattle.notation.specs.declared.tokens.Token.{Token}
+use Rattle.notation.specs.declared.automaton.State.the-variants.{Command}
+use Rattle.notation.specs.declared.reading.Judged.{Judged}
+use Rattle.notation.specs.declared.reading.Judged.the-variants.{Refused, Passed}
+use Rattle.notation.specs.declared.reading.Reading.{Reading}
+use Rattle.notation.specs.declared.reading.Reading.the-variants.{Unfit, Over, Accepted}
+use Rattle.notation.specs.Grammar as G
+use Rattle.notation.specs.Grammar.{Program, programTokens, Denotes, Spells, rowOf, joined, threads, programRows, programLengths}
+use Rattle.notation.specs.Automaton.{next, ended}
+use Rattle.notation.specs.Reading.{mostBytes, tokens, starts, readOf, rowNumbers, threadLengths, judgedBy, judgedOf, answer, answered, tooMany, answerOf, reading, written, Within, Holds, RefusedAt, ByGrammar, Read}
+use Rattle.notation.proofs.Programs.{program-found, program-one}
+use Rattle.notation.proofs.Grammars.{lexer, grammar}
+
+-- a text that denotes a program: what is found in it are the program's tables
+pub denoted-found : (text : List ℕ) (x : Program) → Denotes text x → readOf text ≡ outcome (programRows x) (programLengths x) none
+denoted-found text x d = ap (λ (ts : List Token). found next ended ts Command 0) (spelt-tokens lexer d) ∙ program-found x
+
+many-rows : (x : Program) → length (programRows x) ≡ length (joined (threads x))
+many-rows x = length-map (joined (threads x)) rowOf
+
+many-lengths : (x : Program) → length (programLengths x) ≡ length (threads x)
+many-lengths x = length-map (threads x) (λ (t : List G.Command). length t)
+
+pub denoted-judged : (text : List ℕ) (x : Program) → Denotes text x → judgedOf text ≡ Passed (length (joined (threads x))) (length (threads x))
+unfolding judgedOf
+denoted-judged text x d = rw (denoted-found text x d, many-rows x, many-lengths x)
+
+-- what a judgement says of a text
+abbrev Says : List ℕ → Judged → Type 0
+Says text (Refused p) = RefusedAt text p
+Says text (Passed m t) = (x : Program) × Denotes text x
+
+says : (text : List ℕ) → Says text (judgedOf text)
+unfolding judgedOf
+says text = by-stop (readOf text .stop) refl
+  where
+    by-stop : (o : Option ℕ) → readOf text .stop ≡ o → Says text (judgedBy (starts text) (length text) (length (readOf text .rows)) (length (readOf text .lengths)) o)
+    by-stop none e = let (w, s) = R.passes lexer grammar text e in (w .0, subst (λ (ts : List Token). Spells text ts) (w .1) s)
+    by-stop (some i) e = R.refuses lexer grammar text i e
+
+-- a text that is refused denotes nothing
+refused-judged : (text : List ℕ) (p : ℕ) → RefusedAt text p → judgedOf text ≡ Refused p
+refused-judged text p h = by-judged (judgedOf text) (says text)
+  where
+    by-judged : (j : Judged) → Says text j → j ≡ Refused p
+    by-judged (Refused q) k = ap Refused (R.refused-one k h)
+    by-judged (Passed m t) (x, d) = absurd (R.refused-not h (x, spelt-tokens lexer d))
+
+-- document 01's numbers tell the answers apart
+pub answered-one : (r q : Reading) → answered r ≡ answered q → r ≡ q
+answered-one (Unfit p) (Unfit q) e = ap Unfit (ap (λ a. a .told .place) e)
+answered-one (Unfit p) Over e = let z : _≡_ {A = ℕ} 12 13 = ap (λ a. a .told .number) e in absurd (omega arith)
+answered-one (Unfit p) (Accepted m t) e = let z : _≡_ {A = ℕ} 12 0 = ap (λ a. a .told .number) e in absurd (omega arith)
+answered-one Over (Unfit q) e = let z : _≡_ {A = ℕ} 13 12 = ap (λ a. a .told .number) e in absurd (omega arith)
+answered-one Over Over e = refl
+answered-one Over (Accepted m t) e = let z : _≡_ {A = ℕ} 13 0 = ap (λ a. a .told .number) e in absurd (omega arith)
+answered-one (Accepted m t) (Unfit q) e = let z : _≡_ {A = ℕ} 0 12 = ap (λ a. a .told .number) e in absurd (omega arith)
+answered-one (Accepted m t) Over e = let z : _≡_ {A = ℕ} 0 13 = ap (λ a. a .told .number) e in absurd (omega arith)
+answered-one (Accepted m t) (Accepted n u) e =
+    let i : m ≡ n = ap (λ a. a .commands) e in
+    let j : t ≡ u = ap (λ a. a .threads) e in
+    cc
+
+-- the reading that a judgement gives, within the limits or not
+abbrev limited : Judged → ℕ → ℕ → Reading
+limited (Refused p) c l = Unfit p
+limited (Passed m t) c l = cond (tooMany m t c l) Over (Accepted m t)
+
+answered-limited : (j : Judged) (c l : ℕ) → answered (limited j c l) ≡ answerOf j c l
+answered-limited (Refused p) c l = refl
+answered-limited (Passed m t) c l = by-test (tooMany m t c l)
+  where
+    by-test : (b : Bool) → answered (cond b Over (Accepted m t)) ≡ cond b (answered Over) (answered (Accepted m t))
+    by-test true = refl
+    by-test false = refl
+
+module _ (text : List ℕ) (c l : ℕ) where
+  abbrev long : Bool
+  long = ltb mostBytes (length text)
+
+  -- an answer that meets the equation is this one
+  pub answer-is : (r : Reading) → answered r ≡ reading text c l → r ≡ cond long Over (limited (judgedOf text) c l)
+  unfolding reading
+  answer-is r e = answered-one r (cond long Over (limited (judgedOf text) c l)) (e ∙ by-test long)
+    where
+      by-test : (b : Bool) → cond b (answered Over) (answerOf (judgedOf text) c l) ≡ answered (cond b Over (limited (judgedOf text) c l))
+      by-test true = refl
+      by-test false = sym (answered-limited (judgedOf text) c l)
+
+  within : (x : Program) → length text ≤ mostBytes → tooMany (length (joined (threads x))) (length (threads x)) c l ≡ false → Within text c l x
+  within x h e =
+      let f = few (ltb mostRows (length (joined (threads x)))) (ltb mostThreads (length (threads x))) (ltb c (length (joined (threads x)) * 3)) (ltb l (length (threads x))) e in
+      record {
+        bytes = h;
+        few-rows = ltb-false _ _ (f .0);
+        few-threads = ltb-false _ _ (f .1);
+        room = ltb-false _ _ (f .2);
+        places = ltb-false _ _ (f .3);
+      }
+    where
+      few : (p q r s : Bool) → ((p || q) || (r || s)) ≡ false → (p ≡ false) × (q ≡ false) × (r ≡ false) × (s ≡ false)
+      few false false false false e = (refl, refl, refl, refl)
+      few false false false true e = absurd (true≢false e)
+      few false false true s e = absurd (true≢false e)
+      few false true r s e = absurd (true≢false e)
+      few true q r s e = absurd (true≢false e)
+
+  few-enough : (x : Program) → Within text c l x → tooMany (length (joined (threads x))) (length (threads x)) c l ≡ false
+  few-enough x w = rw (le-ltb _ _ (w .few-rows), le-ltb _ _ (w .few-threads), le-ltb _ _ (w .room), le-ltb _ _ (w .places))
+
+-- what each answer means
+abbrev Means : List ℕ → ℕ → ℕ → Reading → Type 0
+Means text c l (Unfit p) = (length text ≤ mostBytes) × RefusedAt text p
+Means text c l Over = (mostBytes < length text) ⊎ ((x : Program) × Denotes text x × ¬ Within text c l x)
+Means text c l (Accepted m t) = (x : Program) × Denotes text x × Within text c l x
+
+module _ (text : List ℕ) (c l : ℕ) where
+  means-denoted : (x : Program) → Denotes text x → length text ≤ mostBytes → (b : Bool) → tooMany (length (joined (threads x))) (length (threads x)) c l ≡ b
+      → Means text c l (cond b Over (Accepted (length (joined (threads x))) (length (threads x))))
+  means-denoted x d h true e = inr (x, d, λ w. true≢false (sym e ∙ few-enough text c l x w))
+  means-denoted x d h false e = (x, d, within text c l x h e)
+
+  means-limited : (j : Judged) → judgedOf text ≡ j → Says text j → length text ≤ mostBytes → Means text c l (limited j c l)
+  means-limited (Refused p) e k h = (h, k)
+  means-limited (Passed m t) e (x, d) h =
+      let q : Passed (length (joined (threads x))) (length (threads x)) ≡ Passed m t = sym (denoted-judged text x d) ∙ e in
+      subst (λ (j : Judged). Means text c l (limited j c l)) q (means-denoted x d h (tooMany (length (joined (threads x))) (length (threads x)) c l) refl)
+
+  means : (b : Bool) → ltb mostBytes (length text) ≡ b → Means text c l (cond b Over (limited (judgedOf text) c l))
+  means true e = inl (ltb-true mostBytes (length text) e)
+  means false e = means-limited (judgedOf text) refl (says text) (ltb-false mostBytes (length text) e)
+
+module _ (text commands lengths commands′ lengths′ : List ℕ) (r : Reading) (e : answered r ≡ reading text (length commands) (length lengths)) where
+  abbrev c : ℕ
+  c = length commands
+
+  abbrev l : ℕ
+  l = length lengths
+
+  meaning : Means text c l r
+  meaning = subst (Means text c l) (sym (answer-is text c l r e)) (means text c l (ltb mostBytes (length text)) refl)
+
+  short : length text ≤ mostBytes → r ≡ limited (judgedOf text) c l
+  short h = answer-is text c l r e ∙ rw (le-ltb mostBytes (length text) h)
+
+  module _ (rows : commands′ ≡ written r (rowNumbers text) commands) (lens : lengths′ ≡ written r (threadLengths text) lengths) where
+    accepts : (x : Program) → Denotes text x → Within text c l x → Holds commands lengths commands′ lengths′ r x
+    accepts x d w =
+        let q : r ≡ Accepted (length (joined (threads x))) (length (threads x)) = short (w .bytes) ∙ rw (denoted-judged text x d, few-enough text c l x w) in
+        record {
+          many = q;
+          rows = rows ∙ ap (λ (z : Reading). written z (rowNumbers text) commands) q ∙ ap (λ (o : Outcome). over (flat (o .rows)) commands) (denoted-found text x d);
+          lens = lens ∙ ap (λ (z : Reading). written z (threadLengths text) lengths) q ∙ ap (λ (o : Outcome). over (o .lengths) lengths) (denoted-found text x d);
+        }
+
+    pub grammatical : ByGrammar text commands lengths commands′ lengths′ r
+    grammatical =
+        record {
+          accepts = accepts;
+          accepted = λ m t q. subst (Means text c l) q meaning;
+          one = λ x y d f. program-one x y (sym (spelt-tokens lexer d) ∙ spelt-tokens lexer f);
+          refuses = λ p q. subst (Means text c l) q meaning;
+          refused = λ p h k. short h ∙ rw (refused-judged text p k);
+          too-much = λ q. subst (Means text c l) q meaning;
+        }
+
+    pub promised : Read text commands lengths commands′ lengths′ r
+    promised = record { answers = e; rows-hold = rows; lengths-hold = lens; by-grammar = grammatical }
+
+-- no other answer, and no other tables
+pub read-one : {text commands lengths a b a′ b′ : List ℕ} {r r′ : Reading} → Read text commands lengths a b r → Read text commands lengths a′ b′ r′
+    → (r ≡ r′) × (a ≡ a′) × (b ≡ b′)
+read-one {text} {commands} {lengths} {r = r} {r′ = r′} x y =
+    let q : r ≡ r′ = answered-one r r′ (x .answers ∙ sym (y .answers)) in
+    (q, x .rows-hold ∙ ap (λ (z : Reading). written z (rowNumbers text) commands) q ∙ sym (y .rows-hold), x .lengths-hold ∙ ap (λ (z : Reading). written z (threadLengths text) lengths) q ∙ sym (y .lengths-hold))
