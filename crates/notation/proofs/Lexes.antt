@@ -1,10 +1,10 @@
 -- What the shared theory asks of the tokens: what bytes begin with is what they spell. Assumes nothing.
 use mathlib.Core.Path.{_≡_, refl, ap, sym, _∙_}
 use mathlib.Core.Logic.{inl, inr, ⊎-elim}
-use mathlib.Core.Bool.{Bool, true, false}
+use mathlib.Core.Bool.{true, false}
 use mathlib.Core.List.{List, [], _∷_, _++_}
 use mathlib.Mathlib.Data.Bool.Basic.{dichotomy}
-use Prim.Native.Nat.{ℕ, _≤_, _<_}
+use Prim.Native.Nat.{ℕ, _<_}
 use native.Mathlib.Omega.{arith}
 use lib.ListN.{length, getD, take, drop}
 use lib.Seq.{take-append-seam}
@@ -12,12 +12,9 @@ use borrow.Author.Tests.{eqb-true}
 use Rattle.tables.specs.Rows.{read, write, arrive, sync}
 use Rattle.spelling.specs.Bytes.{classOf, is, blank, letter, digit, run, blanks}
 use Rattle.spelling.specs.Words.{alike}
-use Rattle.spelling.specs.Numbers.{numeralOf, Means}
-use Rattle.spelling.specs.declared.number.Numeral.{Numeral}
-use Rattle.spelling.specs.declared.number.Numeral.the-variants as N
+use Rattle.spelling.specs.Numbers.{Means}
 use Rattle.spelling.proofs.Runs.{run-none, run-none-at, run-whole, run-stops}
-use Rattle.spelling.proofs.Words.{alike-same}
-use Rattle.spelling.proofs.Numbers.{means-number, number-means}
+use Rattle.spelling.proofs.Numbers.{means-number}
 use Rattle.notation.specs.declared.tokens.Token.{Token}
 use Rattle.notation.specs.declared.tokens.Token.the-variants.{Access, Signal, Return, Number, Semi, Bars, Misfit}
 use Rattle.notation.specs.declared.tokens.Piece.{Piece}
@@ -63,26 +60,20 @@ pub some : (w : List ℕ) (t : Token) → Spelling w t → 0 < length w
 some =
     by-spelling (λ w t. 0 < length w) (omega arith) (omega arith) (omega arith) (omega arith) (omega arith) (λ w n m. m .some) (omega arith) (omega arith)
 
--- bytes of one class throughout, and behind them none of it
-module _ (k : ℕ) (w s : List ℕ) (h : 0 < length w) (e : run (is k) w ≡ length w) where
-  first : k ≡ classOf (getD (w ++ s) 0 0)
-  first = by-byte w h e
-    where
-      by-byte : (w : List ℕ) → 0 < length w → run (is k) w ≡ length w → k ≡ classOf (getD (w ++ s) 0 0)
-      by-byte [] h e = absurd (omega arith)
-      by-byte (b ∷ w) h e =
-          ⊎-elim (λ (f : is k b ≡ false). absurd (omega (arith, run-none (is k) b w f))) (λ (f : is k b ≡ true). sym (eqb-true (classOf b) k f)) (dichotomy (is k b))
+-- bytes of one class throughout begin with a byte of it
+first : (k : ℕ) (w s : List ℕ) → 0 < length w → run (is k) w ≡ length w → k ≡ classOf (getD (w ++ s) 0 0)
+first k [] s h e = absurd (omega arith)
+first k (b ∷ w) s h e =
+    ⊎-elim (λ (f : is k b ≡ false). absurd (omega (arith, run-none (is k) b w f))) (λ (f : is k b ≡ true). sym (eqb-true (classOf b) k f)) (dichotomy (is k b))
 
-  ends-there : run (is k) s ≡ 0 → length w ≡ run (is k) (w ++ s)
-  ends-there z = sym (run-whole (is k) w s e z)
-
-word-found : (w s : List ℕ) (t : Token) → 0 < length w → run (is letter) w ≡ length w → t ≡ wordOf w → run (is letter) s ≡ 0 → sized t (length w) ≡ pieceOf (w ++ s)
+word-found : (w s : List ℕ) (t : Token) → 0 < length w → run (is letter) w ≡ length w → t ≡ wordOf w → run (is letter) s ≡ 0
+    → sized t (length w) ≡ pieceOf (w ++ s)
 word-found w s t h e q z =
-    word-piece (w ++ s) letter (first letter w s h e) refl (length w) (ends-there letter w s h e z) t (q ∙ ap wordOf (sym (take-append-seam w s)))
+    word-piece (w ++ s) letter (first letter w s h e) refl (length w) (sym (run-whole (is letter) w s e z)) t (q ∙ ap wordOf (sym (take-append-seam w s)))
 
 number-found : (w s : List ℕ) (n : ℕ) → Means w n → run (is digit) s ≡ 0 → sized (Number n) (length w) ≡ pieceOf (w ++ s)
 number-found w s n m z =
-    number-piece (w ++ s) digit (first digit w s (m .some) (m .digits)) refl (length w) (ends-there digit w s (m .some) (m .digits) z) (Number n)
+    number-piece (w ++ s) digit (first digit w s (m .some) (m .digits)) refl (length w) (sym (run-whole (is digit) w s (m .digits) z)) (Number n)
     (ap numeral (sym (means-number w n m)) ∙ ap numberOf (sym (take-append-seam w s)))
 
 pub tight : (w s : List ℕ) (t : Token) → Spelling w t → blanks (w ++ s) ≡ 0
@@ -109,14 +100,10 @@ size-found w s t h z = ap (λ (p : Piece). p .size) (sym (found w s t h z))
 abbrev Spelt : List ℕ → List ℕ → Token → Type 0
 Spelt w r t = Fits t → Spelling w t × (run (extends t) r ≡ 0)
 
-none : (s : List ℕ) → run (λ b. false) s ≡ 0
-unfolding run
-none [] = refl
-none (b ∷ s) = refl
-
 word-spelt : (w r : List ℕ) → run (is letter) r ≡ 0 → Spelt w r (wordOf w)
 word-spelt w r z =
-    by-word (Spelt w r) w (λ e f. (inl (refl, e), z)) (λ e f. (inr (refl, e), z)) (λ e f. (inl (refl, e), z)) (λ e f. (inr (refl, e), z)) (λ e f. (e, z)) (λ f. absurd f)
+    by-word (Spelt w r) w (λ e f. (inl (refl, e), z)) (λ e f. (inr (refl, e), z)) (λ e f. (inl (refl, e), z)) (λ e f. (inr (refl, e), z))
+    (λ e f. (e, z)) (λ f. absurd f)
 
 number-spelt : (w r : List ℕ) → run (is digit) r ≡ 0 → Spelt w r (numberOf w)
 number-spelt w r z = by-number (Spelt w r) w (λ n m f. (m, z)) (λ f. absurd f)
@@ -124,7 +111,8 @@ number-spelt w r z = by-number (Spelt w r) w (λ n m f. (m, z)) (λ f. absurd f)
 cuts : (s : List ℕ) → Spelt (take (sizeOf s) s) (drop (sizeOf s) s) (tokenOf s)
 cuts s =
     by-piece (λ p. Spelt (take (p .size) s) (drop (p .size) s) (p .token)) s (λ e. word-spelt _ _ (run-stops (is letter) s))
-    (λ e. number-spelt _ _ (run-stops (is digit) s)) (λ e f. (e, none (drop 1 s))) (λ e f. (e, none (drop 2 s))) (λ f. absurd f)
+    (λ e. number-spelt _ _ (run-stops (is digit) s))
+    (λ e f. (e, run-none-at (λ b. false) (drop 1 s) refl)) (λ e f. (e, run-none-at (λ b. false) (drop 2 s) refl)) (λ f. absurd f)
 
 module _ (s : List ℕ) (h : 0 < length s) (f : Fits (tokenOf s)) where
   pub spelt : Spelling (take (sizeOf s) s) (tokenOf s)

@@ -7,11 +7,11 @@ use mathlib.Core.Option.{Option, none, some}
 use Prim.Native.Nat.{ℕ, suc, _+_, _*_, _≤_, _<_}
 use native.Mathlib.Numerals.{add-one}
 use native.Mathlib.Omega.{arith}
-use lib.ListN.{length, set, length-append}
-use Rattle.tables.specs.Limits.{mostRows}
+use lib.ListN.{length, set}
+use Rattle.tables.specs.Limits.{mostRows, mostThreads}
 use Rattle.spelling.specs.Machine.{Outcome, Row, row, outcome, further, moved, flat}
 use Rattle.spelling.specs.Over.{over}
-use Rattle.spelling.proofs.Filling.{Filling, filling-none, filling-left, filling-room, filling-long, filling-done, filling-more, filling-three}
+use Rattle.spelling.proofs.Filling.{Filling, filling-none, filling-left, filling-count, filling-room, filling-long, filling-done, filling-more, filling-three}
 use Rattle.notation.specs.declared.tokens.Token.{Token}
 use Rattle.notation.specs.declared.tokens.Met.the-variants as M
 use Rattle.notation.specs.declared.automaton.State.{State}
@@ -110,7 +110,7 @@ pub record Writing (text was was′ now now′ : List ℕ) (at : ℕ) (s : State
   pub inside : at ≤ length text
   pub rows : Filling (rowNumbers text) (flat (foundFrom text at s n .rows)) was now i
   pub lens : Filling (threadLengths text) (foundFrom text at s n .lengths) was′ now′ j
-  pub few : (n * 3 ≤ i) × (length (rowNumbers text) ≤ mostRows * 3)
+  pub few : (n * 3 ≤ i) × (length (rowNumbers text) ≤ mostRows * 3) × (length (threadLengths text) ≤ mostThreads)
 
 flat-long : (rs : List Row) → length (flat rs) ≡ length rs * 3
 unfolding flat
@@ -123,7 +123,7 @@ writing-start {text} R =
       inside = omega arith;
       rows = filling-none _ _ (R .rows);
       lens = filling-none _ _ (R .lens);
-      few = (omega arith, omega (arith, R .few, flat-long (readOf text .rows)));
+      few = (omega arith, omega (arith, R .few-rows, flat-long (readOf text .rows)), R .few-threads);
     }
 
 module _ (text was was′ now now′ : List ℕ) (at : ℕ) (s : State) (i j n : ℕ) (W : Writing text was was′ now now′ at s i j n) where
@@ -168,9 +168,8 @@ module _ (text was was′ now now′ : List ℕ) (at : ℕ) (s : State) (i j n :
       -- the row has its room, and no count overflows
       pub writing-room : (i + 3 ≤ length now) × (i + 3 ≤ mostRows * 3) × (n + 1 ≤ mostRows)
       writing-room =
-          let h = filling-room row-left in
-          let f : i + 3 ≤ length (rowNumbers text) = omega (arith, row-left .long, ap length (row-left .all-is), length-append (row-left .front) (k ∷ a ∷ c ∷ after)) in
-          (omega (arith, h, filling-long row-left), omega (arith, f, W .few .1), omega (arith, f, W .few .0, W .few .1))
+          let f : i + 3 ≤ length (rowNumbers text) = omega (arith, filling-count row-left) in
+          (omega (arith, filling-room row-left, filling-long row-left), omega (arith, f, W .few .1), omega (arith, f, W .few .0, W .few .1))
 
       pub writing-row : Writing text was was′ (set (set (set now i k) (i + 1) a) (i + 2) c) now′ nxt Close (i + 3) j (n + 1)
       writing-row =
@@ -179,15 +178,17 @@ module _ (text was was′ now now′ : List ℕ) (at : ℕ) (s : State) (i j n :
             inside = writing-further .1;
             rows = filling-three k a c row-left;
             lens = filling-left _ (ap (λ (o : Outcome). o .lengths) (goes-to (Do.Row k a c) q)) (W .lens);
-            few = (omega (arith, W .few .0), W .few .1);
+            few = (omega (arith, W .few .0), W .few .1, W .few .2);
           })
 
     module _ (q : stepped s tok ≡ Do.Thread) where
       thread-left : Filling (threadLengths text) (n ∷ foundFrom text nxt Part 0 .lengths) was′ now′ j
       thread-left = filling-left _ (ap (λ (o : Outcome). o .lengths) (goes-to Do.Thread q)) (W .lens)
 
-      pub writing-place : j < length now′
-      writing-place = omega (arith, filling-room thread-left, filling-long thread-left)
+      pub writing-place : (j < length now′) × (j < mostThreads)
+      writing-place =
+          let f : j + 1 ≤ length (threadLengths text) = omega (arith, filling-count thread-left) in
+          (omega (arith, filling-room thread-left, filling-long thread-left), omega (arith, f, W .few .2))
 
       pub writing-thread : Writing text was was′ now (set now′ j n) nxt Part i (j + 1) 0
       writing-thread =
@@ -195,5 +196,5 @@ module _ (text was was′ now now′ : List ℕ) (at : ℕ) (s : State) (i j n :
             inside = writing-further .1;
             rows = filling-left _ (ap (λ (o : Outcome). flat (o .rows)) (goes-to Do.Thread q)) (W .rows);
             lens = filling-more n thread-left;
-            few = (omega arith, W .few .1);
+            few = (omega arith, W .few .1, W .few .2);
           }

@@ -20,10 +20,10 @@ use Rattle.spelling.proofs.Numbers.{number-means}
 use Rattle.notation.specs.declared.tokens.Token.{Token}
 use Rattle.notation.specs.declared.tokens.Token.the-variants.{Access, Signal, Return, Number, Semi, Bars, Misfit}
 use Rattle.notation.specs.declared.tokens.Piece.{Piece}
-use Rattle.notation.specs.declared.tokens.Met.{Met}
 use Rattle.notation.specs.declared.tokens.Met.the-variants as M
 use Rattle.notation.specs.Tokens.{readWord, writeWord, arriveWord, syncWord, returnWord, wordOf, numeral, numberOf, sized, markOf, pieceOf, sizeOf, tokenAt}
 
+-- with the answers of its tests
 pub word-is : (w : List ℕ) (a b c d e : Bool)
     → alike w readWord ≡ a → alike w writeWord ≡ b → alike w arriveWord ≡ c → alike w syncWord ≡ d → alike w returnWord ≡ e
     → cond a (Access read) (cond b (Access write) (cond c (Signal arrive) (cond d (Signal sync) (cond e Return Misfit)))) ≡ wordOf w

@@ -3,6 +3,7 @@ use mathlib.Core.Path.{_≡_, refl}
 use mathlib.Core.Bool.{false}
 use mathlib.Core.List.{List, [], _∷_}
 use Prim.Native.Nat.{ℕ}
+use Rattle.spelling.specs.Machine.{refuse}
 use types.Run.{OneOf, miss}
 use denote.Enum.Declared
 use Rattle.notation.specs.declared.tokens.Token.{Token}
@@ -11,7 +12,8 @@ use Rattle.notation.specs.declared.automaton.State.{State}
 use Rattle.notation.specs.declared.automaton.State.the-variants.{Command, Address, Barrier, Count, Close, Part}
 use Rattle.notation.specs.declared.automaton.Moved.{Moved}
 use Rattle.notation.specs.declared.automaton.Moved.the-variants.{Refuse, On, Row, Thread}
-use Rattle.notation.specs.Automaton.{atCommand, atNumber, atClose, atPart, stepped, ended}
+use Rattle.notation.specs.Automaton.{atCommand, atNumber, atClose, atPart, stepped, ended, move, next}
+use Rattle.notation.proofs.Lexes.{Fits}
 use Rattle.notation.proofs.tokens.Token as T
 use Rattle.notation.proofs.automaton.State as S
 
@@ -93,3 +95,9 @@ no-end (Barrier k) h = refl
 no-end (Count k b) h = refl
 no-end Close h = refl
 no-end Part h = absurd (miss (0 ∷ 1 ∷ 2 ∷ 3 ∷ 4 ∷ []) 5 tt h)
+
+-- what goes on is of the notation
+pub step-fits : (s : State) (t : Token) → (next s t ≡ refuse → ⊥) → Fits t
+step-fits =
+    by-step (λ s t m. (move m ≡ refuse → ⊥) → Fits t) (λ s t h. absurd (h refl)) (λ k h. tt) (λ k h. tt) (λ h. tt) (λ k g h. tt) (λ k b h. tt) (λ k b n h. tt)
+    (λ h. tt) (λ h. tt)

@@ -92,9 +92,10 @@ restOf (Unfit p) text = drop p text
 restOf Over text = []
 restOf (Accepted m t) text = []
 
--- what the writing pass asks: few rows, and rooms that hold the tables
+-- what the writing pass asks: few rows and threads, and rooms that hold them
 pub record Rooms (text commands lengths : List ℕ) : Type 0 where
-  pub few : length (readOf text .rows) ≤ mostRows
+  pub few-rows : length (readOf text .rows) ≤ mostRows
+  pub few-threads : length (threadLengths text) ≤ mostThreads
   pub rows : length (rowNumbers text) ≤ length commands
   pub lens : length (threadLengths text) ≤ length lengths
 
