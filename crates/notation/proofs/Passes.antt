@@ -112,7 +112,7 @@ pub record Writing (text was was′ now now′ : List ℕ) (at : ℕ) (s : State
   pub lens : Filling (threadLengths text) (foundFrom text at s n .lengths) was′ now′ j
   pub few : (n * 3 ≤ i) × (length (rowNumbers text) ≤ mostRows * 3) × (length (threadLengths text) ≤ mostThreads)
 
-flat-long : (rs : List Row) → length (flat rs) ≡ length rs * 3
+pub flat-long : (rs : List Row) → length (flat rs) ≡ length rs * 3
 unfolding flat
 flat-long [] = refl
 flat-long (r ∷ rs) = omega (arith, flat-long rs)

@@ -1,10 +1,11 @@
 -- What a reading answers is what the grammar says of the text; and no other answer meets the promise. Assumes nothing.
 use mathlib.Core.Path.{_≡_, refl, ap, sym, subst, _∙_}
-use mathlib.Core.Logic.{_⊎_, inl, inr}
+use mathlib.Core.Logic.{_⊎_, inl, inr, by-cases}
 use mathlib.Core.Bool.{Bool, true, false, cond, _||_, true≢false}
 use mathlib.Core.List.{List, [], _∷_, map}
 use mathlib.Core.Option.{Option, none, some}
-use Prim.Native.Nat.{ℕ, _*_, _≤_, _<_}
+use Prim.Native.Nat.{ℕ, _*_, _/_, _≤_, _<_}
+use native.Mathlib.Decide.{decLt}
 use native.Mathlib.Omega.{arith}
 use lib.Dec.{ltb}
 use lib.ListN.{length, length-map}
@@ -23,9 +24,10 @@ use Rattle.notation.specs.declared.reading.Reading.the-variants.{Unfit, 
 use Rattle.notation.specs.Grammar as G
 use Rattle.notation.specs.Grammar.{Program, programTokens, Denotes, Spells, rowOf, joined, threads, programRows, programLengths}
 use Rattle.notation.specs.Automaton.{next, ended}
-use Rattle.notation.specs.Reading.{mostBytes, tokens, starts, readOf, rowNumbers, threadLengths, judgedBy, judgedOf, answer, answered, tooMany, answerOf, reading, written, Within, Holds, RefusedAt, ByGrammar, Read}
+use Rattle.notation.specs.Reading.{mostBytes, tokens, starts, readOf, rowNumbers, threadLengths, judgedBy, judgedOf, answer, answered, tooMany, answerOf, reading, written, Within, Holds, RefusedAt, ByGrammar, Read, Rooms}
 use Rattle.notation.proofs.Programs.{program-found, program-one}
 use Rattle.notation.proofs.Grammars.{lexer, grammar}
+use Rattle.notation.proofs.Passes.{flat-long}
 
 -- a text that denotes a program: what is found in it are the program's tables
 pub denoted-found : (text : List ℕ) (x : Program) → Denotes text x → readOf text ≡ outcome (programRows x) (programLengths x) none
@@ -103,23 +105,22 @@ module _ (text : List ℕ) (c l : ℕ) where
       by-test true = refl
       by-test false = sym (answered-limited (judgedOf text) c l)
 
+  few : (m t : ℕ) → tooMany m t c l ≡ false → (m ≤ mostRows) × (t ≤ mostThreads) × (m * 3 ≤ c) × (t ≤ l)
+  few m t e =
+      let f = none-of (ltb mostRows m) (ltb mostThreads t) (ltb c (m * 3)) (ltb l t) e in
+      (ltb-false _ _ (f .0), ltb-false _ _ (f .1), ltb-false _ _ (f .2), ltb-false _ _ (f .3))
+    where
+      none-of : (p q r s : Bool) → ((p || q) || (r || s)) ≡ false → (p ≡ false) × (q ≡ false) × (r ≡ false) × (s ≡ false)
+      none-of false false false false e = (refl, refl, refl, refl)
+      none-of false false false true e = absurd (true≢false e)
+      none-of false false true s e = absurd (true≢false e)
+      none-of false true r s e = absurd (true≢false e)
+      none-of true q r s e = absurd (true≢false e)
+
   within : (x : Program) → length text ≤ mostBytes → tooMany (length (joined (threads x))) (length (threads x)) c l ≡ false → Within text c l x
   within x h e =
-      let f = few (ltb mostRows (length (joined (threads x)))) (ltb mostThreads (length (threads x))) (ltb c (length (joined (threads x)) * 3)) (ltb l (length (threads x))) e in
-      record {
-        bytes = h;
-        few-rows = ltb-false _ _ (f .0);
-        few-threads = ltb-false _ _ (f .1);
-        room = ltb-false _ _ (f .2);
-        places = ltb-false _ _ (f .3);
-      }
-    where
-      few : (p q r s : Bool) → ((p || q) || (r || s)) ≡ false → (p ≡ false) × (q ≡ false) × (r ≡ false) × (s ≡ false)
-      few false false false false e = (refl, refl, refl, refl)
-      few false false false true e = absurd (true≢false e)
-      few false false true s e = absurd (true≢false e)
-      few false true r s e = absurd (true≢false e)
-      few true q r s e = absurd (true≢false e)
+      let f = few (length (joined (threads x))) (length (threads x)) e in
+      record { bytes = h; few-rows = f .0; few-threads = f .1; room = f .2; places = f .3 }
 
   few-enough : (x : Program) → Within text c l x → tooMany (length (joined (threads x))) (length (threads x)) c l ≡ false
   few-enough x w = rw (le-ltb _ _ (w .few-rows), le-ltb _ _ (w .few-threads), le-ltb _ _ (w .room), le-ltb _ _ (w .places))
@@ -189,3 +190,65 @@ pub read-one : {text commands lengths a b a′ b′ : List ℕ} {r r′ : Readin
 read-one {text} {commands} {lengths} {r = r} {r′ = r′} x y =
     let q : r ≡ r′ = answered-one r r′ (x .answers ∙ sym (y .answers)) in
     (q, x .rows-hold ∙ ap (λ (z : Reading). written z (rowNumbers text) commands) q ∙ sym (y .rows-hold), x .lengths-hold ∙ ap (λ (z : Reading). written z (threadLengths text) lengths) q ∙ sym (y .lengths-hold))
+
+-- what `read` has found at each of its returns
+third : (c m : ℕ) → ltb (c / 3) m ≡ ltb c (m * 3)
+third c m =
+    by-cases (decLt c (m * 3)) (λ (h : c < m * 3). lt-ltb (c / 3) m (omega arith) ∙ sym (lt-ltb c (m * 3) h))
+    (λ (n : ¬ (c < m * 3)). le-ltb (c / 3) m (omega arith) ∙ sym (le-ltb c (m * 3) (omega arith)))
+
+module _ (text : List ℕ) (c l : ℕ) where
+  pub reading-long : mostBytes < length text → answered Over ≡ reading text c l
+  unfolding reading
+  reading-long h = rw (lt-ltb mostBytes (length text) h)
+
+  module _ (h : length text ≤ mostBytes) where
+    judged : (j : Judged) → judgedOf text ≡ j → answerOf j c l ≡ reading text c l
+    unfolding reading
+    judged j e = rw (le-ltb mostBytes (length text) h, e)
+
+    pub reading-unfit : (p : ℕ) → judgedOf text ≡ Refused p → answered (Unfit p) ≡ reading text c l
+    reading-unfit p e = judged (Refused p) e
+
+    module _ (m t : ℕ) (e : judgedOf text ≡ Passed m t) where
+      limits : (b : Bool) → tooMany m t c l ≡ b → cond b (answered Over) (answered (Accepted m t)) ≡ reading text c l
+      limits b q = ap (λ (z : Bool). cond z (answered Over) (answered (Accepted m t))) (sym q) ∙ judged (Passed m t) e
+
+      pub reading-limit : (ltb mostRows m || ltb mostThreads t) ≡ true → answered Over ≡ reading text c l
+      reading-limit q = limits true (rw q)
+
+      pub reading-room : (ltb (c / 3) m || ltb l t) ≡ true → answered Over ≡ reading text c l
+      reading-room q = limits true (by-test (ltb mostRows m || ltb mostThreads t) (rw (third c m) at q))
+        where
+          by-test : (b : Bool) → (ltb c (m * 3) || ltb l t) ≡ true → (b || (ltb c (m * 3) || ltb l t)) ≡ true
+          by-test true r = refl
+          by-test false r = r
+
+      module _ (p : (ltb mostRows m || ltb mostThreads t) ≡ false) (q : (ltb (c / 3) m || ltb l t) ≡ false) where
+        few-all : tooMany m t c l ≡ false
+        few-all = rw (p, rw (third c m) at q)
+
+        pub reading-accepted : answered (Accepted m t) ≡ reading text c l
+        reading-accepted = limits false few-all
+
+-- and what the writing pass asks
+judged-many : (text : List ℕ) (m t : ℕ) → judgedOf text ≡ Passed m t → (length (readOf text .rows) ≡ m) × (length (threadLengths text) ≡ t)
+unfolding judgedOf
+judged-many text m t e = by-stop (readOf text .stop) e
+  where
+    by-stop : (o : Option ℕ) → judgedBy (starts text) (length text) (length (readOf text .rows)) (length (readOf text .lengths)) o ≡ Passed m t
+        → (length (readOf text .rows) ≡ m) × (length (threadLengths text) ≡ t)
+    by-stop none q = (cc, cc)
+    by-stop (some i) q = absurd (true≢false cc)
+
+pub judged-rooms : (text commands lengths : List ℕ) (m t : ℕ) → judgedOf text ≡ Passed m t → (ltb mostRows m || ltb mostThreads t) ≡ false
+    → (ltb (length commands / 3) m || ltb (length lengths) t) ≡ false → Rooms text commands lengths
+judged-rooms text commands lengths m t e p q =
+    let f = few text (length commands) (length lengths) m t (rw (p, rw (third (length commands) m) at q)) in
+    let n = judged-many text m t e in
+    record {
+      few-rows = omega (arith, f .0, n .0);
+      few-threads = omega (arith, f .1, n .1);
+      rows = omega (arith, f .2, n .0, flat-long (readOf text .rows));
+      lens = omega (arith, f .3, n .1);
+    }
