@@ -1,11 +1,10 @@
 -- What a reading answers is what the grammar says of the text; and no other answer meets the promise. Assumes nothing.
 use mathlib.Core.Path.{_≡_, refl, ap, sym, subst, _∙_}
-use mathlib.Core.Logic.{_⊎_, inl, inr, by-cases}
+use mathlib.Core.Logic.{_⊎_, inl, inr}
 use mathlib.Core.Bool.{Bool, true, false, cond, _||_, true≢false}
 use mathlib.Core.List.{List, [], _∷_, map}
 use mathlib.Core.Option.{Option, none, some}
 use Prim.Native.Nat.{ℕ, _*_, _/_, _≤_, _<_}
-use native.Mathlib.Decide.{decLt}
 use native.Mathlib.Omega.{arith}
 use lib.Dec.{ltb}
 use lib.ListN.{length, length-map}
@@ -92,12 +91,34 @@ answered-limited (Passed m t) c l = by-test (tooMany m t c l)
     by-test true = refl
     by-test false = refl
 
+-- within the limits and the rooms
+abbrev Few : ℕ → ℕ → ℕ → ℕ → Type 0
+Few m t c l = (m ≤ mostRows) × (t ≤ mostThreads) × (m * 3 ≤ c) × (t ≤ l)
+
+module _ (m t c l : ℕ) where
+  few : tooMany m t c l ≡ false → Few m t c l
+  unfolding tooMany
+  few e =
+      let (p, q, r, s) = none-of (ltb mostRows m) (ltb mostThreads t) (ltb (c / 3) m) (ltb l t) e in
+      (ltb-false _ _ p, ltb-false _ _ q, omega (arith, ltb-false (c / 3) m r), ltb-false _ _ s)
+    where
+      none-of : (p q r s : Bool) → (p || q || r || s) ≡ false → (p ≡ false) × (q ≡ false) × (r ≡ false) × (s ≡ false)
+      none-of false false false false e = (refl, refl, refl, refl)
+      none-of false false false true e = absurd (true≢false e)
+      none-of false false true s e = absurd (true≢false e)
+      none-of false true r s e = absurd (true≢false e)
+      none-of true q r s e = absurd (true≢false e)
+
+  few-enough : Few m t c l → tooMany m t c l ≡ false
+  unfolding tooMany
+  few-enough f = rw (le-ltb _ _ (f .0), le-ltb _ _ (f .1), le-ltb (c / 3) m (omega (arith, f .2)), le-ltb _ _ (f .3))
+
 module _ (text : List ℕ) (c l : ℕ) where
   abbrev long : Bool
   long = ltb mostBytes (length text)
 
   -- an answer that meets the equation is this one
-  pub answer-is : (r : Reading) → answered r ≡ reading text c l → r ≡ cond long Over (limited (judgedOf text) c l)
+  answer-is : (r : Reading) → answered r ≡ reading text c l → r ≡ cond long Over (limited (judgedOf text) c l)
   unfolding reading
   answer-is r e = answered-one r (cond long Over (limited (judgedOf text) c l)) (e ∙ by-test long)
     where
@@ -105,25 +126,15 @@ module _ (text : List ℕ) (c l : ℕ) where
       by-test true = refl
       by-test false = sym (answered-limited (judgedOf text) c l)
 
-  few : (m t : ℕ) → tooMany m t c l ≡ false → (m ≤ mostRows) × (t ≤ mostThreads) × (m * 3 ≤ c) × (t ≤ l)
-  few m t e =
-      let f = none-of (ltb mostRows m) (ltb mostThreads t) (ltb c (m * 3)) (ltb l t) e in
-      (ltb-false _ _ (f .0), ltb-false _ _ (f .1), ltb-false _ _ (f .2), ltb-false _ _ (f .3))
-    where
-      none-of : (p q r s : Bool) → ((p || q) || (r || s)) ≡ false → (p ≡ false) × (q ≡ false) × (r ≡ false) × (s ≡ false)
-      none-of false false false false e = (refl, refl, refl, refl)
-      none-of false false false true e = absurd (true≢false e)
-      none-of false false true s e = absurd (true≢false e)
-      none-of false true r s e = absurd (true≢false e)
-      none-of true q r s e = absurd (true≢false e)
+  module _ (x : Program) where
+    abbrev FewOf : Type 0
+    FewOf = Few (length (joined (threads x))) (length (threads x)) c l
 
-  within : (x : Program) → length text ≤ mostBytes → tooMany (length (joined (threads x))) (length (threads x)) c l ≡ false → Within text c l x
-  within x h e =
-      let f = few (length (joined (threads x))) (length (threads x)) e in
-      record { bytes = h; few-rows = f .0; few-threads = f .1; room = f .2; places = f .3 }
+    within : length text ≤ mostBytes → FewOf → Within text c l x
+    within h f = record { bytes = h; few-rows = f .0; few-threads = f .1; room = f .2; places = f .3 }
 
-  few-enough : (x : Program) → Within text c l x → tooMany (length (joined (threads x))) (length (threads x)) c l ≡ false
-  few-enough x w = rw (le-ltb _ _ (w .few-rows), le-ltb _ _ (w .few-threads), le-ltb _ _ (w .room), le-ltb _ _ (w .places))
+    within-few : Within text c l x → FewOf
+    within-few w = (w .few-rows, w .few-threads, w .room, w .places)
 
 -- what each answer means
 abbrev Means : List ℕ → ℕ → ℕ → Reading → Type 0
@@ -134,8 +145,8 @@ Means text c l (Accepted m t) = (x : Program) × Denotes text x × Within text c
 module _ (text : List ℕ) (c l : ℕ) where
   means-denoted : (x : Program) → Denotes text x → length text ≤ mostBytes → (b : Bool) → tooMany (length (joined (threads x))) (length (threads x)) c l ≡ b
       → Means text c l (cond b Over (Accepted (length (joined (threads x))) (length (threads x))))
-  means-denoted x d h true e = inr (x, d, λ w. true≢false (sym e ∙ few-enough text c l x w))
-  means-denoted x d h false e = (x, d, within text c l x h e)
+  means-denoted x d h true e = inr (x, d, λ w. true≢false (sym e ∙ few-enough _ _ c l (within-few text c l x w)))
+  means-denoted x d h false e = (x, d, within text c l x h (few _ _ c l e))
 
   means-limited : (j : Judged) → judgedOf text ≡ j → Says text j → length text ≤ mostBytes → Means text c l (limited j c l)
   means-limited (Refused p) e k h = (h, k)
@@ -163,7 +174,7 @@ module _ (text commands lengths commands′ lengths′ : List ℕ) (r : Reading)
   module _ (rows : commands′ ≡ written r (rowNumbers text) commands) (lens : lengths′ ≡ written r (threadLengths text) lengths) where
     accepts : (x : Program) → Denotes text x → Within text c l x → Holds commands lengths commands′ lengths′ r x
     accepts x d w =
-        let q : r ≡ Accepted (length (joined (threads x))) (length (threads x)) = short (w .bytes) ∙ rw (denoted-judged text x d, few-enough text c l x w) in
+        let q : r ≡ Accepted (length (joined (threads x))) (length (threads x)) = short (w .bytes) ∙ rw (denoted-judged text x d, few-enough _ _ c l (within-few text c l x w)) in
         record {
           many = q;
           rows = rows ∙ ap (λ (z : Reading). written z (rowNumbers text) commands) q ∙ ap (λ (o : Outcome). over (flat (o .rows)) commands) (denoted-found text x d);
@@ -192,11 +203,6 @@ read-one {text} {commands} {lengths} {r = r} {r′ = r′} x y =
     (q, x .rows-hold ∙ ap (λ (z : Reading). written z (rowNumbers text) commands) q ∙ sym (y .rows-hold), x .lengths-hold ∙ ap (λ (z : Reading). written z (threadLengths text) lengths) q ∙ sym (y .lengths-hold))
 
 -- what `read` has found at each of its returns
-third : (c m : ℕ) → ltb (c / 3) m ≡ ltb c (m * 3)
-third c m =
-    by-cases (decLt c (m * 3)) (λ (h : c < m * 3). lt-ltb (c / 3) m (omega arith) ∙ sym (lt-ltb c (m * 3) h))
-    (λ (n : ¬ (c < m * 3)). le-ltb (c / 3) m (omega arith) ∙ sym (le-ltb c (m * 3) (omega arith)))
-
 module _ (text : List ℕ) (c l : ℕ) where
   pub reading-long : mostBytes < length text → answered Over ≡ reading text c l
   unfolding reading
@@ -214,22 +220,11 @@ module _ (text : List ℕ) (c l : ℕ) where
       limits : (b : Bool) → tooMany m t c l ≡ b → cond b (answered Over) (answered (Accepted m t)) ≡ reading text c l
       limits b q = ap (λ (z : Bool). cond z (answered Over) (answered (Accepted m t))) (sym q) ∙ judged (Passed m t) e
 
-      pub reading-limit : (ltb mostRows m || ltb mostThreads t) ≡ true → answered Over ≡ reading text c l
-      reading-limit q = limits true (rw q)
+      pub reading-over : tooMany m t c l ≡ true → answered Over ≡ reading text c l
+      reading-over q = limits true q
 
-      pub reading-room : (ltb (c / 3) m || ltb l t) ≡ true → answered Over ≡ reading text c l
-      reading-room q = limits true (by-test (ltb mostRows m || ltb mostThreads t) (rw (third c m) at q))
-        where
-          by-test : (b : Bool) → (ltb c (m * 3) || ltb l t) ≡ true → (b || (ltb c (m * 3) || ltb l t)) ≡ true
-          by-test true r = refl
-          by-test false r = r
-
-      module _ (p : (ltb mostRows m || ltb mostThreads t) ≡ false) (q : (ltb (c / 3) m || ltb l t) ≡ false) where
-        few-all : tooMany m t c l ≡ false
-        few-all = rw (p, rw (third c m) at q)
-
-        pub reading-accepted : answered (Accepted m t) ≡ reading text c l
-        reading-accepted = limits false few-all
+      pub reading-accepted : tooMany m t c l ≡ false → answered (Accepted m t) ≡ reading text c l
+      reading-accepted q = limits false q
 
 -- and what the writing pass asks
 judged-many : (text : List ℕ) (m t : ℕ) → judgedOf text ≡ Passed m t → (length (readOf text .rows) ≡ m) × (length (threadLengths text) ≡ t)
@@ -241,10 +236,9 @@ judged-many text m t e = by-stop (readOf text .stop) e
     by-stop none q = (cc, cc)
     by-stop (some i) q = absurd (true≢false cc)
 
-pub judged-rooms : (text commands lengths : List ℕ) (m t : ℕ) → judgedOf text ≡ Passed m t → (ltb mostRows m || ltb mostThreads t) ≡ false
-    → (ltb (length commands / 3) m || ltb (length lengths) t) ≡ false → Rooms text commands lengths
-judged-rooms text commands lengths m t e p q =
-    let f = few text (length commands) (length lengths) m t (rw (p, rw (third (length commands) m) at q)) in
+pub judged-rooms : (text commands lengths : List ℕ) (m t : ℕ) → judgedOf text ≡ Passed m t → tooMany m t (length commands) (length lengths) ≡ false → Rooms text commands lengths
+judged-rooms text commands lengths m t e q =
+    let f = few m t (length commands) (length lengths) q in
     let n = judged-many text m t e in
     record {
       few-rows = omega (arith, f .0, n .0);

@@ -4,7 +4,7 @@ use mathlib.Core.Logic.{_⊎_}
 use mathlib.Core.Bool.{Bool, cond, _||_}
 use mathlib.Core.List.{List, []}
 use mathlib.Core.Option.{Option, none, some}
-use Prim.Native.Nat.{ℕ, _≤_, _<_, _*_}
+use Prim.Native.Nat.{ℕ, _*_, _/_, _≤_, _<_}
 use lib.Dec.{ltb}
 use lib.ListN.{length, getD, drop}
 use Rattle.tables.specs.Limits.{mostRows, mostThreads}
@@ -68,9 +68,9 @@ answered (Unfit p) = answer (tell 12 p 0) 0 0
 answered Over = answer (tell 13 0 0) 0 0
 answered (Accepted m t) = answer (tell 0 0 0) m t
 
--- more commands or threads than a table has, or than the lent rooms hold: c numbers of commands, l lengths
-abbrev pub tooMany : ℕ → ℕ → ℕ → ℕ → Bool
-tooMany m t c l = (ltb mostRows m || ltb mostThreads t) || (ltb c (m * 3) || ltb l t)
+-- more commands or threads than a table has, or than the lent rooms hold: one of c numbers for the commands, one of l for the lengths
+unfoldable pub tooMany : ℕ → ℕ → ℕ → ℕ → Bool
+tooMany m t c l = ltb mostRows m || ltb mostThreads t || ltb (c / 3) m || ltb l t
 
 abbrev pub answerOf : Judged → ℕ → ℕ → Answer
 answerOf (Refused p) c l = answer (tell 12 p 0) 0 0

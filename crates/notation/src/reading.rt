@@ -2,7 +2,7 @@
 ghost use mathlib.Core.Path.{_≡_};
 ghost use Prim.Native.Nat.{_+_, _≤_};
 ghost use lib.ListN.{length, set};
-ghost use Rattle.notation.specs.Reading.{judgedOf, rowNumbers, threadLengths, Rooms, Read, restOf};
+ghost use Rattle.notation.specs.Reading.{answered, judgedOf, rowNumbers, threadLengths, tooMany, Rooms, Read, restOf};
 ghost use Rattle.spelling.specs.Over.{over};
 use crate::automaton::Moved;
 use crate::automaton::State;
@@ -11,6 +11,7 @@ use crate::automaton::step;
 use crate::tokens::Met;
 use crate::tokens::token_at;
 use tables::Table;
+use tables::Told;
 
 pub struct Text;
 
@@ -24,6 +25,31 @@ pub enum Reading {
     Unfit(usize),
     Over,
     Accepted(usize, usize),
+}
+
+impl Reading {
+    // A refusal's number and place; 0 where the text was accepted.
+    pub fn number(self) -> Told
+        ensures { λ r. ⌜ r ≡ answered self .told ⌝ }
+    {
+        match self {
+            Reading::Unfit(place) => Told {
+                number: 12,
+                place,
+                also: 0,
+            },
+            Reading::Over => Told {
+                number: 13,
+                place: 0,
+                also: 0,
+            },
+            Reading::Accepted(_, _) => Told {
+                number: 0,
+                place: 0,
+                also: 0,
+            },
+        }
+    }
 }
 
 // Refused at a place, or of the notation, with so many commands and threads.
@@ -117,6 +143,13 @@ fn write(text: &[u8], commands: &mut [u32], lengths: &mut [u32])
     }
 }
 
+// Are m commands or t threads more than a table has, or than rooms of these sizes hold?
+fn too_many(m: usize, t: usize, room: usize, places: usize) -> bool
+    ensures { λ r. ⌜ r ≡ tooMany m t room places ⌝ }
+{
+    (Table::ROWS < m) | (Table::THREADS < t) | (room / 3 < m) | (places < t)
+}
+
 // Reads a text into the two lent tables.
 pub fn read(text: &[u8], commands: &mut [u32], lengths: &mut [u32]) -> Reading
     ensures { λ r. ⌜ Read (now (text .entry)) (now (commands .entry)) (now (lengths .entry)) (now (commands .exit)) (now (lengths .exit)) r ⌝ }
@@ -127,10 +160,7 @@ pub fn read(text: &[u8], commands: &mut [u32], lengths: &mut [u32]) -> Reading
     match judge(text) {
         Judged::Refused(place) => Reading::Unfit(place),
         Judged::Passed(m, t) => {
-            if (Table::ROWS < m) | (Table::THREADS < t) {
-                return Reading::Over;
-            }
-            if (commands.len() / 3 < m) | (lengths.len() < t) {
+            if too_many(m, t, commands.len(), lengths.len()) {
                 return Reading::Over;
             }
             write(text, commands, lengths);

@@ -13,14 +13,7 @@ use Rattle.spelling.specs.Bytes.{classOf, is, digit, run}
 use Rattle.spelling.specs.Numbers.{mostNumber, decimal, Means, numeralOf}
 use Rattle.spelling.proofs.Scans.{drop-next}
 
--- a number passes four tests: digits, some, no leading zero, small
-unfit : (v : ℕ) (a b c d : Bool) → ((a ≡ true) × (b ≡ true) × (c ≡ true) × (d ≡ true) → ⊥) → _≡_ {A = Numeral} (cond (a && (b && (c && d))) (Number v) Unfit) Unfit
-unfit v true true true true n = absurd (n (refl, refl, refl, refl))
-unfit v true true true false n = refl
-unfit v true true false d n = refl
-unfit v true false c d n = refl
-unfit v false b c d n = refl
-
+-- the four tests of a number
 passed : (v n : ℕ) (a b c d : Bool) → cond (a && (b && (c && d))) (Number v) Unfit ≡ Number n → (a ≡ true) × (b ≡ true) × (c ≡ true) × (d ≡ true) × (v ≡ n)
 passed v n true true true true e = (refl, refl, refl, refl, cc)
 passed v n true true true false e = absurd (true≢false cc)
@@ -28,46 +21,12 @@ passed v n true true false d e = absurd (true≢false cc)
 passed v n true false c d e = absurd (true≢false cc)
 passed v n false b c d e = absurd (true≢false cc)
 
-module _ (w : List ℕ) where
-  abbrev leads : Bool
-  leads = eqb (getD w 0 0) 48 && not (eqb (length w) 1)
-
-  -- the four tests
-  abbrev Tests : Type 0
-  Tests =
-      (eqb (run (is digit) w) (length w) ≡ true) × (ltb 0 (length w) ≡ true) × (not leads ≡ true) × (leb (decimal 0 w) mostNumber ≡ true)
-
-  unless : (Tests → ⊥) → numeralOf w ≡ Unfit
-  unfolding numeralOf
-  unless = unfit (decimal 0 w) (eqb (run (is digit) w) (length w)) (ltb 0 (length w)) (not leads) (leb (decimal 0 w) mostNumber)
-
-  tested : (n : ℕ) → numeralOf w ≡ Number n → Tests × (decimal 0 w ≡ n)
-  unfolding numeralOf
-  tested n e =
-      let h = passed (decimal 0 w) n (eqb (run (is digit) w) (length w)) (ltb 0 (length w)) (not leads) (leb (decimal 0 w) mostNumber) e in
-      ((h .0, h .1, h .2, h .3), h .4)
-
-  pub none-unfit : length w ≡ 0 → numeralOf w ≡ Unfit
-  none-unfit e = unless (λ h. true≢false (sym (h .1) ∙ le-ltb 0 (length w) (omega arith)))
-
-  pub leading-unfit : leads ≡ true → numeralOf w ≡ Unfit
-  leading-unfit e = unless (λ h. true≢false (sym (h .2) ∙ ap not e))
-
-  pub other-unfit : (run (is digit) w ≡ length w → ⊥) → numeralOf w ≡ Unfit
-  other-unfit n = unless (λ h. n (eqb-true _ _ (h .0)))
-
-  pub large-unfit : mostNumber < decimal 0 w → numeralOf w ≡ Unfit
-  large-unfit l = unless (λ h. true≢false (sym (h .3) ∙ lt-leb _ _ l))
-
-  pub number-is : run (is digit) w ≡ length w → 0 < length w → leads ≡ false → decimal 0 w ≤ mostNumber → numeralOf w ≡ Number (decimal 0 w)
-  unfolding numeralOf
-  number-is d s l m = rw (eq-eqb _ _ d, lt-ltb _ _ s, l, le-leb _ _ m)
-
-alone : (x n : ℕ) → (x ≡ 48 → n ≡ 1) → (eqb x 48 && not (eqb n 1)) ≡ false
+-- a leading zero stands alone
+alone : (x n : ℕ) → (x ≡ 48 → n ≡ 1) → not (eqb x 48 && not (eqb n 1)) ≡ true
 alone x n f = by-test (eqb x 48) refl
   where
-    by-test : (t : Bool) → eqb x 48 ≡ t → (t && not (eqb n 1)) ≡ false
-    by-test true e = ap not (eq-eqb n 1 (f (eqb-true x 48 e)))
+    by-test : (t : Bool) → eqb x 48 ≡ t → not (t && not (eqb n 1)) ≡ true
+    by-test true e = rw (eq-eqb n 1 (f (eqb-true x 48 e)))
     by-test false e = refl
 
 lone : (n : ℕ) (b : Bool) → not (b && not (eqb n 1)) ≡ true → b ≡ true → n ≡ 1
@@ -79,19 +38,28 @@ lone n b e q = by-test (eqb n 1) refl (rw q at e)
 
 -- bytes are read as a number exactly when they mean it
 pub means-number : (w : List ℕ) (n : ℕ) → Means w n → numeralOf w ≡ Number n
+unfolding numeralOf
 means-number w n h =
-    number-is w (h .digits) (h .some) (alone (getD w 0 0) (length w) (h .leading)) (omega (arith, h .value, h .small)) ∙ ap Number (h .value)
+    rw (eq-eqb _ _ (h .digits), lt-ltb _ _ (h .some), alone (getD w 0 0) (length w) (h .leading), h .value, le-leb n mostNumber (h .small))
 
 pub number-means : (w : List ℕ) (n : ℕ) → numeralOf w ≡ Number n → Means w n
+unfolding numeralOf
 number-means w n e =
-    let h = tested w n e in
+    let h = passed (decimal 0 w) n (eqb (run (is digit) w) (length w)) (ltb 0 (length w)) (not (eqb (getD w 0 0) 48 && not (eqb (length w) 1))) (leb (decimal 0 w) mostNumber) e in
     record {
-      digits = eqb-true _ _ (h .0 .0);
-      some = ltb-true _ _ (h .0 .1);
-      leading = λ z. lone (length w) (eqb (getD w 0 0) 48) (h .0 .2) (eq-eqb _ _ z);
-      value = h .1;
-      small = omega (arith, leb-true (decimal 0 w) mostNumber (h .0 .3), h .1);
+      digits = eqb-true _ _ (h .0);
+      some = ltb-true _ _ (h .1);
+      leading = λ z. lone (length w) (eqb (getD w 0 0) 48) (h .2) (eq-eqb _ _ z);
+      value = h .4;
+      small = omega (arith, leb-true (decimal 0 w) mostNumber (h .3), h .4);
     }
+
+pub means-nothing : (w : List ℕ) → ((n : ℕ) → Means w n → ⊥) → numeralOf w ≡ Unfit
+means-nothing w h = by-numeral (numeralOf w) refl
+  where
+    by-numeral : (x : Numeral) → numeralOf w ≡ x → x ≡ Unfit
+    by-numeral (Number n) e = absurd (h n (number-means w n e))
+    by-numeral Unfit e = refl
 
 -- a digit is a byte of 48 to 57
 pub digit-range : (b : ℕ) → classOf b ≡ digit → (48 ≤ b) × (b ≤ 57)

@@ -21,7 +21,7 @@ pub fn read_number(bytes: &[u8]) -> Numeral
     if bytes.len() == 0 {
         return Numeral::Unfit;
     }
-    if (bytes[0] == 48) & (bytes.len() != 1) {
+    if bytes.len() != 1 && bytes[0] == 48 {
         return Numeral::Unfit;
     }
     let mut value = 0;
