@@ -61,7 +61,7 @@ fn sizes(text: &[u8]) -> [u32; 5] {
 }
 
 // A line of tables.
-fn tables(text: &[u8]) {
+fn of_tables(text: &[u8]) {
     let named = after(text, 0, b':');
     let first = after(text, named, b'/');
     let second = after(text, first, b'/');
@@ -81,7 +81,7 @@ fn line(text: &[u8]) {
     if 0 < text.len() && text[0] == b'"' {
         texts::line(text);
     } else {
-        tables(text);
+        of_tables(text);
     }
 }
 

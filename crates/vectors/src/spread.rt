@@ -1,4 +1,5 @@
-// A text as a line writes it, spread out: `\DDD` is the byte of that decimal number, `&` parts pieces, and a piece that begins with `N*` stands N times.
+// A text as a line writes it, spread out: `\DDD` is the byte of that decimal number of three digits, `&` parts pieces, and a piece that begins with `N*` stands N
+// times. So `\010` is a newline, `512*read 0;&return` has 512 commands, and `&`, `*` and `\` themselves are `\038`, `\042` and `\092`.
 ghost use Prim.Native.Nat.{_≤_, _<_};
 ghost use lib.ListN.{length};
 use crate::fields::after;

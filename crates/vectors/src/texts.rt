@@ -1,7 +1,7 @@
 // Cases that are texts for the reader of the written notation, a line each:
 //     "NAME: C L: TEXT
-// C and L are how many places the rooms have for the commands, counted in numbers, and for the lengths. TEXT begins after one space and is spread out as `spread`
-// says, so `\010` is a newline and `512*read 0;&return` has 512 commands.
+// C and L are how many places the rooms have for the commands, counted in numbers, and for the lengths. TEXT begins after one space and is written in pieces:
+// see `spread`. As it is spread out, it is cut at 32,800 bytes.
 use crate::fields::after;
 use crate::fields::before;
 use crate::fields::numbers;
