@@ -1,9 +1,10 @@
 -- What a reading answers, and what the lent tables then hold.
 use mathlib.Core.Path.{_≡_}
+use mathlib.Core.Logic.{_⊎_}
 use mathlib.Core.Bool.{Bool, cond, _||_}
 use mathlib.Core.List.{List, []}
 use mathlib.Core.Option.{Option, none, some}
-use Prim.Native.Nat.{ℕ, _≤_, _*_}
+use Prim.Native.Nat.{ℕ, _≤_, _<_, _*_}
 use lib.Dec.{ltb}
 use lib.ListN.{length, getD, drop}
 use Rattle.tables.specs.Limits.{mostRows, mostThreads}
@@ -91,9 +92,10 @@ restOf (Unfit p) text = drop p text
 restOf Over text = []
 restOf (Accepted m t) text = []
 
--- what the writing pass asks: few rows, and rooms that hold the tables
+-- what the writing pass asks: few rows and threads, and rooms that hold them
 pub record Rooms (text commands lengths : List ℕ) : Type 0 where
-  pub few : length (readOf text .rows) ≤ mostRows
+  pub few-rows : length (readOf text .rows) ≤ mostRows
+  pub few-threads : length (threadLengths text) ≤ mostThreads
   pub rows : length (rowNumbers text) ≤ length commands
   pub lens : length (threadLengths text) ≤ length lengths
 
@@ -105,8 +107,8 @@ pub record Within (text : List ℕ) (c l : ℕ) (x : Program) : Type 0 where
   pub room : length (joined (threads x)) * 3 ≤ c
   pub places : length (threads x) ≤ l
 
--- the reading of a text that denotes a program
-pub record Finds (text : List ℕ) (commands lengths commands′ lengths′ : List ℕ) (r : Reading) (x : Program) : Type 0 where
+-- the reading is that program's two tables, and how many commands and threads they have
+pub record Holds (commands lengths commands′ lengths′ : List ℕ) (r : Reading) (x : Program) : Type 0 where
   pub many : r ≡ Accepted (length (joined (threads x))) (length (threads x))
   pub rows : commands′ ≡ over (flat (programRows x)) commands
   pub lens : lengths′ ≡ over (programLengths x) lengths
@@ -114,16 +116,24 @@ pub record Finds (text : List ℕ) (commands lengths commands′ lengths′ : Li
 abbrev pub RefusedAt : List ℕ → ℕ → Type 0
 RefusedAt text p = R.Refused Spells Whole text (tokens text) (starts text) p
 
--- The promise, by equation: the answer, and both tables.
+-- The promise by the grammar alone.
+pub record ByGrammar (text commands lengths commands′ lengths′ : List ℕ) (r : Reading) : Type 0 where
+  -- a text that denotes a program within the limits is read as that program
+  pub accepts : (x : Program) → Denotes text x → Within text (length commands) (length lengths) x → Holds commands lengths commands′ lengths′ r x
+  -- what is accepted denotes one
+  pub accepted : (m t : ℕ) → r ≡ Accepted m t → (x : Program) × Denotes text x × Within text (length commands) (length lengths) x
+  -- no text denotes two
+  pub one : (x y : Program) → Denotes text x → Denotes text y → x ≡ y
+  -- 12 exactly at the place where a text that is not too long is refused
+  pub refuses : (p : ℕ) → r ≡ Unfit p → (length text ≤ mostBytes) × RefusedAt text p
+  pub refused : (p : ℕ) → length text ≤ mostBytes → RefusedAt text p → r ≡ Unfit p
+  -- 13 for a text that is too long, or denotes a program that is not within the limits
+  pub too-much : r ≡ Over
+      → (mostBytes < length text) ⊎ ((x : Program) × Denotes text x × ¬ Within text (length commands) (length lengths) x)
+
+-- The promise by equation, and by the grammar.
 pub record Read (text commands lengths commands′ lengths′ : List ℕ) (r : Reading) : Type 0 where
   pub answers : answered r ≡ reading text (length commands) (length lengths)
   pub rows-hold : commands′ ≡ written r (rowNumbers text) commands
   pub lengths-hold : lengths′ ≡ written r (threadLengths text) lengths
-  -- and by the grammar: a text that denotes a program within the limits is read as that program's tables
-  pub accepts : (x : Program) → Denotes text x → Within text (length commands) (length lengths) x → Finds text commands lengths commands′ lengths′ r x
-  -- what is accepted denotes one
-  pub denotes : (m t : ℕ) → r ≡ Accepted m t → (x : Program) × Denotes text x × Within text (length commands) (length lengths) x
-  -- and no other
-  pub one : (x y : Program) → Denotes text x → Denotes text y → x ≡ y
-  -- 12 at a place exactly where the text is refused; no other place will do
-  pub refuses : (p : ℕ) → r ≡ Unfit p → RefusedAt text p
+  pub by-grammar : ByGrammar text commands lengths commands′ lengths′ r

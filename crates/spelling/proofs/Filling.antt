@@ -24,8 +24,11 @@ filling-left left′ e f =
     record { front = f .front; long = f .long; all-is = f .all-is ∙ ap (λ (l : List ℕ). f .front ++ l) e; now-is = f .now-is; fits = f .fits }
 
 module _ {all left was now : List ℕ} {i : ℕ} (f : Filling all left was now i) where
+  pub filling-count : i + length left ≡ length all
+  filling-count = omega (arith, f .long, ap length (f .all-is), length-append (f .front) left)
+
   pub filling-room : i + length left ≤ length was
-  filling-room = omega (arith, f .long, f .fits, ap length (f .all-is), length-append (f .front) left)
+  filling-room = omega (arith, filling-count, f .fits)
 
   pub filling-long : length now ≡ length was
   filling-long = omega (arith, f .long, filling-room, ap length (f .now-is), length-append (f .front) (drop i was), length-drop i was)

@@ -1,0 +1,254 @@
+-- What a reading answers is what the grammar says of the text; and no other answer meets the promise. Assumes nothing.
+use mathlib.Core.Path.{_≡_, refl, ap, sym, subst, _∙_}
+use mathlib.Core.Logic.{_⊎_, inl, inr, by-cases}
+use mathlib.Core.Bool.{Bool, true, false, cond, _||_, true≢false}
+use mathlib.Core.List.{List, [], _∷_, map}
+use mathlib.Core.Option.{Option, none, some}
+use Prim.Native.Nat.{ℕ, _*_, _/_, _≤_, _<_}
+use native.Mathlib.Decide.{decLt}
+use native.Mathlib.Omega.{arith}
+use lib.Dec.{ltb}
+use lib.ListN.{length, length-map}
+use borrow.Author.Tests.{lt-ltb, le-ltb, ltb-true, ltb-false}
+use Rattle.tables.specs.Limits.{mostRows, mostThreads}
+use Rattle.spelling.specs.Machine.{Outcome, outcome, found, flat}
+use Rattle.spelling.specs.Over.{over}
+use Rattle.spelling.proofs.Spelt.{spelt-tokens}
+use Rattle.spelling.proofs.Refusals as R
+use Rattle.notation.specs.declared.tokens.Token.{Token}
+use Rattle.notation.specs.declared.automaton.State.the-variants.{Command}
+use Rattle.notation.specs.declared.reading.Judged.{Judged}
+use Rattle.notation.specs.declared.reading.Judged.the-variants.{Refused, Passed}
+use Rattle.notation.specs.declared.reading.Reading.{Reading}
+use Rattle.notation.specs.declared.reading.Reading.the-variants.{Unfit, Over, Accepted}
+use Rattle.notation.specs.Grammar as G
+use Rattle.notation.specs.Grammar.{Program, programTokens, Denotes, Spells, rowOf, joined, threads, programRows, programLengths}
+use Rattle.notation.specs.Automaton.{next, ended}
+use Rattle.notation.specs.Reading.{mostBytes, tokens, starts, readOf, rowNumbers, threadLengths, judgedBy, judgedOf, answer, answered, tooMany, answerOf, reading, written, Within, Holds, RefusedAt, ByGrammar, Read, Rooms}
+use Rattle.notation.proofs.Programs.{program-found, program-one}
+use Rattle.notation.proofs.Grammars.{lexer, grammar}
+use Rattle.notation.proofs.Passes.{flat-long}
+
+-- a text that denotes a program: what is found in it are the program's tables
+pub denoted-found : (text : List ℕ) (x : Program) → Denotes text x → readOf text ≡ outcome (programRows x) (programLengths x) none
+denoted-found text x d = ap (λ (ts : List Token). found next ended ts Command 0) (spelt-tokens lexer d) ∙ program-found x
+
+many-rows : (x : Program) → length (programRows x) ≡ length (joined (threads x))
+many-rows x = length-map (joined (threads x)) rowOf
+
+many-lengths : (x : Program) → length (programLengths x) ≡ length (threads x)
+many-lengths x = length-map (threads x) (λ (t : List G.Command). length t)
+
+pub denoted-judged : (text : List ℕ) (x : Program) → Denotes text x → judgedOf text ≡ Passed (length (joined (threads x))) (length (threads x))
+unfolding judgedOf
+denoted-judged text x d = rw (denoted-found text x d, many-rows x, many-lengths x)
+
+-- what a judgement says of a text
+abbrev Says : List ℕ → Judged → Type 0
+Says text (Refused p) = RefusedAt text p
+Says text (Passed m t) = (x : Program) × Denotes text x
+
+says : (text : List ℕ) → Says text (judgedOf text)
+unfolding judgedOf
+says text = by-stop (readOf text .stop) refl
+  where
+    by-stop : (o : Option ℕ) → readOf text .stop ≡ o → Says text (judgedBy (starts text) (length text) (length (readOf text .rows)) (length (readOf text .lengths)) o)
+    by-stop none e = let (w, s) = R.passes lexer grammar text e in (w .0, subst (λ (ts : List Token). Spells text ts) (w .1) s)
+    by-stop (some i) e = R.refuses lexer grammar text i e
+
+-- a text that is refused denotes nothing
+refused-judged : (text : List ℕ) (p : ℕ) → RefusedAt text p → judgedOf text ≡ Refused p
+refused-judged text p h = by-judged (judgedOf text) (says text)
+  where
+    by-judged : (j : Judged) → Says text j → j ≡ Refused p
+    by-judged (Refused q) k = ap Refused (R.refused-one k h)
+    by-judged (Passed m t) (x, d) = absurd (R.refused-not h (x, spelt-tokens lexer d))
+
+-- document 01's numbers tell the answers apart
+pub answered-one : (r q : Reading) → answered r ≡ answered q → r ≡ q
+answered-one (Unfit p) (Unfit q) e = ap Unfit (ap (λ a. a .told .place) e)
+answered-one (Unfit p) Over e = let z : _≡_ {A = ℕ} 12 13 = ap (λ a. a .told .number) e in absurd (omega arith)
+answered-one (Unfit p) (Accepted m t) e = let z : _≡_ {A = ℕ} 12 0 = ap (λ a. a .told .number) e in absurd (omega arith)
+answered-one Over (Unfit q) e = let z : _≡_ {A = ℕ} 13 12 = ap (λ a. a .told .number) e in absurd (omega arith)
+answered-one Over Over e = refl
+answered-one Over (Accepted m t) e = let z : _≡_ {A = ℕ} 13 0 = ap (λ a. a .told .number) e in absurd (omega arith)
+answered-one (Accepted m t) (Unfit q) e = let z : _≡_ {A = ℕ} 0 12 = ap (λ a. a .told .number) e in absurd (omega arith)
+answered-one (Accepted m t) Over e = let z : _≡_ {A = ℕ} 0 13 = ap (λ a. a .told .number) e in absurd (omega arith)
+answered-one (Accepted m t) (Accepted n u) e =
+    let i : m ≡ n = ap (λ a. a .commands) e in
+    let j : t ≡ u = ap (λ a. a .threads) e in
+    cc
+
+-- the reading that a judgement gives, within the limits or not
+abbrev limited : Judged → ℕ → ℕ → Reading
+limited (Refused p) c l = Unfit p
+limited (Passed m t) c l = cond (tooMany m t c l) Over (Accepted m t)
+
+answered-limited : (j : Judged) (c l : ℕ) → answered (limited j c l) ≡ answerOf j c l
+answered-limited (Refused p) c l = refl
+answered-limited (Passed m t) c l = by-test (tooMany m t c l)
+  where
+    by-test : (b : Bool) → answered (cond b Over (Accepted m t)) ≡ cond b (answered Over) (answered (Accepted m t))
+    by-test true = refl
+    by-test false = refl
+
+module _ (text : List ℕ) (c l : ℕ) where
+  abbrev long : Bool
+  long = ltb mostBytes (length text)
+
+  -- an answer that meets the equation is this one
+  pub answer-is : (r : Reading) → answered r ≡ reading text c l → r ≡ cond long Over (limited (judgedOf text) c l)
+  unfolding reading
+  answer-is r e = answered-one r (cond long Over (limited (judgedOf text) c l)) (e ∙ by-test long)
+    where
+      by-test : (b : Bool) → cond b (answered Over) (answerOf (judgedOf text) c l) ≡ answered (cond b Over (limited (judgedOf text) c l))
+      by-test true = refl
+      by-test false = sym (answered-limited (judgedOf text) c l)
+
+  few : (m t : ℕ) → tooMany m t c l ≡ false → (m ≤ mostRows) × (t ≤ mostThreads) × (m * 3 ≤ c) × (t ≤ l)
+  few m t e =
+      let f = none-of (ltb mostRows m) (ltb mostThreads t) (ltb c (m * 3)) (ltb l t) e in
+      (ltb-false _ _ (f .0), ltb-false _ _ (f .1), ltb-false _ _ (f .2), ltb-false _ _ (f .3))
+    where
+      none-of : (p q r s : Bool) → ((p || q) || (r || s)) ≡ false → (p ≡ false) × (q ≡ false) × (r ≡ false) × (s ≡ false)
+      none-of false false false false e = (refl, refl, refl, refl)
+      none-of false false false true e = absurd (true≢false e)
+      none-of false false true s e = absurd (true≢false e)
+      none-of false true r s e = absurd (true≢false e)
+      none-of true q r s e = absurd (true≢false e)
+
+  within : (x : Program) → length text ≤ mostBytes → tooMany (length (joined (threads x))) (length (threads x)) c l ≡ false → Within text c l x
+  within x h e =
+      let f = few (length (joined (threads x))) (length (threads x)) e in
+      record { bytes = h; few-rows = f .0; few-threads = f .1; room = f .2; places = f .3 }
+
+  few-enough : (x : Program) → Within text c l x → tooMany (length (joined (threads x))) (length (threads x)) c l ≡ false
+  few-enough x w = rw (le-ltb _ _ (w .few-rows), le-ltb _ _ (w .few-threads), le-ltb _ _ (w .room), le-ltb _ _ (w .places))
+
+-- what each answer means
+abbrev Means : List ℕ → ℕ → ℕ → Reading → Type 0
+Means text c l (Unfit p) = (length text ≤ mostBytes) × RefusedAt text p
+Means text c l Over = (mostBytes < length text) ⊎ ((x : Program) × Denotes text x × ¬ Within text c l x)
+Means text c l (Accepted m t) = (x : Program) × Denotes text x × Within text c l x
+
+module _ (text : List ℕ) (c l : ℕ) where
+  means-denoted : (x : Program) → Denotes text x → length text ≤ mostBytes → (b : Bool) → tooMany (length (joined (threads x))) (length (threads x)) c l ≡ b
+      → Means text c l (cond b Over (Accepted (length (joined (threads x))) (length (threads x))))
+  means-denoted x d h true e = inr (x, d, λ w. true≢false (sym e ∙ few-enough text c l x w))
+  means-denoted x d h false e = (x, d, within text c l x h e)
+
+  means-limited : (j : Judged) → judgedOf text ≡ j → Says text j → length text ≤ mostBytes → Means text c l (limited j c l)
+  means-limited (Refused p) e k h = (h, k)
+  means-limited (Passed m t) e (x, d) h =
+      let q : Passed (length (joined (threads x))) (length (threads x)) ≡ Passed m t = sym (denoted-judged text x d) ∙ e in
+      subst (λ (j : Judged). Means text c l (limited j c l)) q (means-denoted x d h (tooMany (length (joined (threads x))) (length (threads x)) c l) refl)
+
+  means : (b : Bool) → ltb mostBytes (length text) ≡ b → Means text c l (cond b Over (limited (judgedOf text) c l))
+  means true e = inl (ltb-true mostBytes (length text) e)
+  means false e = means-limited (judgedOf text) refl (says text) (ltb-false mostBytes (length text) e)
+
+module _ (text commands lengths commands′ lengths′ : List ℕ) (r : Reading) (e : answered r ≡ reading text (length commands) (length lengths)) where
+  abbrev c : ℕ
+  c = length commands
+
+  abbrev l : ℕ
+  l = length lengths
+
+  meaning : Means text c l r
+  meaning = subst (Means text c l) (sym (answer-is text c l r e)) (means text c l (ltb mostBytes (length text)) refl)
+
+  short : length text ≤ mostBytes → r ≡ limited (judgedOf text) c l
+  short h = answer-is text c l r e ∙ rw (le-ltb mostBytes (length text) h)
+
+  module _ (rows : commands′ ≡ written r (rowNumbers text) commands) (lens : lengths′ ≡ written r (threadLengths text) lengths) where
+    accepts : (x : Program) → Denotes text x → Within text c l x → Holds commands lengths commands′ lengths′ r x
+    accepts x d w =
+        let q : r ≡ Accepted (length (joined (threads x))) (length (threads x)) = short (w .bytes) ∙ rw (denoted-judged text x d, few-enough text c l x w) in
+        record {
+          many = q;
+          rows = rows ∙ ap (λ (z : Reading). written z (rowNumbers text) commands) q ∙ ap (λ (o : Outcome). over (flat (o .rows)) commands) (denoted-found text x d);
+          lens = lens ∙ ap (λ (z : Reading). written z (threadLengths text) lengths) q ∙ ap (λ (o : Outcome). over (o .lengths) lengths) (denoted-found text x d);
+        }
+
+    pub grammatical : ByGrammar text commands lengths commands′ lengths′ r
+    grammatical =
+        record {
+          accepts = accepts;
+          accepted = λ m t q. subst (Means text c l) q meaning;
+          one = λ x y d f. program-one x y (sym (spelt-tokens lexer d) ∙ spelt-tokens lexer f);
+          refuses = λ p q. subst (Means text c l) q meaning;
+          refused = λ p h k. short h ∙ rw (refused-judged text p k);
+          too-much = λ q. subst (Means text c l) q meaning;
+        }
+
+    pub promised : Read text commands lengths commands′ lengths′ r
+    promised = record { answers = e; rows-hold = rows; lengths-hold = lens; by-grammar = grammatical }
+
+-- no other answer, and no other tables
+pub read-one : {text commands lengths a b a′ b′ : List ℕ} {r r′ : Reading} → Read text commands lengths a b r → Read text commands lengths a′ b′ r′
+    → (r ≡ r′) × (a ≡ a′) × (b ≡ b′)
+read-one {text} {commands} {lengths} {r = r} {r′ = r′} x y =
+    let q : r ≡ r′ = answered-one r r′ (x .answers ∙ sym (y .answers)) in
+    (q, x .rows-hold ∙ ap (λ (z : Reading). written z (rowNumbers text) commands) q ∙ sym (y .rows-hold), x .lengths-hold ∙ ap (λ (z : Reading). written z (threadLengths text) lengths) q ∙ sym (y .lengths-hold))
+
+-- what `read` has found at each of its returns
+third : (c m : ℕ) → ltb (c / 3) m ≡ ltb c (m * 3)
+third c m =
+    by-cases (decLt c (m * 3)) (λ (h : c < m * 3). lt-ltb (c / 3) m (omega arith) ∙ sym (lt-ltb c (m * 3) h))
+    (λ (n : ¬ (c < m * 3)). le-ltb (c / 3) m (omega arith) ∙ sym (le-ltb c (m * 3) (omega arith)))
+
+module _ (text : List ℕ) (c l : ℕ) where
+  pub reading-long : mostBytes < length text → answered Over ≡ reading text c l
+  unfolding reading
+  reading-long h = rw (lt-ltb mostBytes (length text) h)
+
+  module _ (h : length text ≤ mostBytes) where
+    judged : (j : Judged) → judgedOf text ≡ j → answerOf j c l ≡ reading text c l
+    unfolding reading
+    judged j e = rw (le-ltb mostBytes (length text) h, e)
+
+    pub reading-unfit : (p : ℕ) → judgedOf text ≡ Refused p → answered (Unfit p) ≡ reading text c l
+    reading-unfit p e = judged (Refused p) e
+
+    module _ (m t : ℕ) (e : judgedOf text ≡ Passed m t) where
+      limits : (b : Bool) → tooMany m t c l ≡ b → cond b (answered Over) (answered (Accepted m t)) ≡ reading text c l
+      limits b q = ap (λ (z : Bool). cond z (answered Over) (answered (Accepted m t))) (sym q) ∙ judged (Passed m t) e
+
+      pub reading-limit : (ltb mostRows m || ltb mostThreads t) ≡ true → answered Over ≡ reading text c l
+      reading-limit q = limits true (rw q)
+
+      pub reading-room : (ltb (c / 3) m || ltb l t) ≡ true → answered Over ≡ reading text c l
+      reading-room q = limits true (by-test (ltb mostRows m || ltb mostThreads t) (rw (third c m) at q))
+        where
+          by-test : (b : Bool) → (ltb c (m * 3) || ltb l t) ≡ true → (b || (ltb c (m * 3) || ltb l t)) ≡ true
+          by-test true r = refl
+          by-test false r = r
+
+      module _ (p : (ltb mostRows m || ltb mostThreads t) ≡ false) (q : (ltb (c / 3) m || ltb l t) ≡ false) where
+        few-all : tooMany m t c l ≡ false
+        few-all = rw (p, rw (third c m) at q)
+
+        pub reading-accepted : answered (Accepted m t) ≡ reading text c l
+        reading-accepted = limits false few-all
+
+-- and what the writing pass asks
+judged-many : (text : List ℕ) (m t : ℕ) → judgedOf text ≡ Passed m t → (length (readOf text .rows) ≡ m) × (length (threadLengths text) ≡ t)
+unfolding judgedOf
+judged-many text m t e = by-stop (readOf text .stop) e
+  where
+    by-stop : (o : Option ℕ) → judgedBy (starts text) (length text) (length (readOf text .rows)) (length (readOf text .lengths)) o ≡ Passed m t
+        → (length (readOf text .rows) ≡ m) × (length (threadLengths text) ≡ t)
+    by-stop none q = (cc, cc)
+    by-stop (some i) q = absurd (true≢false cc)
+
+pub judged-rooms : (text commands lengths : List ℕ) (m t : ℕ) → judgedOf text ≡ Passed m t → (ltb mostRows m || ltb mostThreads t) ≡ false
+    → (ltb (length commands / 3) m || ltb (length lengths) t) ≡ false → Rooms text commands lengths
+judged-rooms text commands lengths m t e p q =
+    let f = few text (length commands) (length lengths) m t (rw (p, rw (third (length commands) m) at q)) in
+    let n = judged-many text m t e in
+    record {
+      few-rows = omega (arith, f .0, n .0);
+      few-threads = omega (arith, f .1, n .1);
+      rows = omega (arith, f .2, n .0, flat-long (readOf text .rows));
+      lens = omega (arith, f .3, n .1);
+    }

@@ -1,0 +1,103 @@
+-- What a token does, where it goes on and where it is refused. Assumes nothing.
+use mathlib.Core.Path.{_≡_, refl}
+use mathlib.Core.Bool.{false}
+use mathlib.Core.List.{List, [], _∷_}
+use Prim.Native.Nat.{ℕ}
+use Rattle.spelling.specs.Machine.{refuse}
+use types.Run.{OneOf, miss}
+use denote.Enum.Declared
+use Rattle.notation.specs.declared.tokens.Token.{Token}
+use Rattle.notation.specs.declared.tokens.Token.the-variants.{Access, Signal, Return, Number, Semi, Bars, Misfit}
+use Rattle.notation.specs.declared.automaton.State.{State}
+use Rattle.notation.specs.declared.automaton.State.the-variants.{Command, Address, Barrier, Count, Close, Part}
+use Rattle.notation.specs.declared.automaton.Moved.{Moved}
+use Rattle.notation.specs.declared.automaton.Moved.the-variants.{Refuse, On, Row, Thread}
+use Rattle.notation.specs.Automaton.{atCommand, atNumber, atClose, atPart, stepped, ended, move, next}
+use Rattle.notation.proofs.Lexes.{Fits}
+use Rattle.notation.proofs.tokens.Token as T
+use Rattle.notation.proofs.automaton.State as S
+
+-- a property of a token and its move holds of every token, once it holds of those that go on and of refusal
+module _ (P : Token → Moved → Type 0) (off : (t : Token) → P t Refuse) where
+  pub by-command : ((k : ℕ) → P (Access k) (On (Address k))) → ((k : ℕ) → P (Signal k) (On (Barrier k))) → P Return Thread → (t : Token) → P t (atCommand t)
+  by-command a s r (Access k) = a k
+  by-command a s r (Signal k) = s k
+  by-command a s r Return = r
+  by-command a s r (Number n) = off (Number n)
+  by-command a s r Semi = off Semi
+  by-command a s r Bars = off Bars
+  by-command a s r Misfit = off Misfit
+
+  pub by-number : (f : ℕ → Moved) → ((n : ℕ) → P (Number n) (f n)) → (t : Token) → P t (atNumber f t)
+  by-number f y (Access k) = off (Access k)
+  by-number f y (Signal k) = off (Signal k)
+  by-number f y Return = off Return
+  by-number f y (Number n) = y n
+  by-number f y Semi = off Semi
+  by-number f y Bars = off Bars
+  by-number f y Misfit = off Misfit
+
+  pub by-close : P Semi (On Command) → (t : Token) → P t (atClose t)
+  by-close y (Access k) = off (Access k)
+  by-close y (Signal k) = off (Signal k)
+  by-close y Return = off Return
+  by-close y (Number n) = off (Number n)
+  by-close y Semi = y
+  by-close y Bars = off Bars
+  by-close y Misfit = off Misfit
+
+  pub by-part : P Bars (On Command) → (t : Token) → P t (atPart t)
+  by-part y (Access k) = off (Access k)
+  by-part y (Signal k) = off (Signal k)
+  by-part y Return = off Return
+  by-part y (Number n) = off (Number n)
+  by-part y Semi = off Semi
+  by-part y Bars = y
+  by-part y Misfit = off Misfit
+
+-- of a state, a token and its move
+pub by-step : (P : State → Token → Moved → Type 0) → ((s : State) (t : Token) → P s t Refuse)
+    → ((k : ℕ) → P Command (Access k) (On (Address k))) → ((k : ℕ) → P Command (Signal k) (On (Barrier k))) → P Command Return Thread
+    → ((k g : ℕ) → P (Address k) (Number g) (Row k g 0)) → ((k b : ℕ) → P (Barrier k) (Number b) (On (Count k b)))
+    → ((k b n : ℕ) → P (Count k b) (Number n) (Row k b n)) → P Close Semi (On Command) → P Part Bars (On Command)
+    → (s : State) (t : Token) → P s t (stepped s t)
+unfolding stepped
+by-step P off a s r g b n c p Command = by-command (P Command) (off Command) a s r
+by-step P off a s r g b n c p (Address k) = by-number (P (Address k)) (off (Address k)) (λ x. Row k x 0) (g k)
+by-step P off a s r g b n c p (Barrier k) = by-number (P (Barrier k)) (off (Barrier k)) (λ x. On (Count k x)) (b k)
+by-step P off a s r g b n c p (Count k x) = by-number (P (Count k x)) (off (Count k x)) (λ y. Row k x y) (n k x)
+by-step P off a s r g b n c p Close = by-close (P Close) (off Close) c
+by-step P off a s r g b n c p Part = by-part (P Part) (off Part) p
+
+-- the numbers of the tokens that go on nowhere: those of the `_` arms of `step`
+abbrev pub others : State → List ℕ
+others Command = 3 ∷ 4 ∷ 5 ∷ 6 ∷ []
+others (Address k) = 0 ∷ 1 ∷ 2 ∷ 4 ∷ 5 ∷ 6 ∷ []
+others (Barrier k) = 0 ∷ 1 ∷ 2 ∷ 4 ∷ 5 ∷ 6 ∷ []
+others (Count k b) = 0 ∷ 1 ∷ 2 ∷ 4 ∷ 5 ∷ 6 ∷ []
+others Close = 0 ∷ 1 ∷ 2 ∷ 3 ∷ 5 ∷ 6 ∷ []
+others Part = 0 ∷ 1 ∷ 2 ∷ 3 ∷ 4 ∷ 6 ∷ []
+
+refuses : (s : State) (t : Token) → OneOf (others s) (Declared.tagOf T.the-type t) → Refuse ≡ stepped s t
+refuses =
+    by-step (λ s t m. OneOf (others s) (Declared.tagOf T.the-type t) → Refuse ≡ m) (λ s t h. refl)
+    (λ k h. absurd (miss (others Command) 0 tt h)) (λ k h. absurd (miss (others Command) 1 tt h)) (λ h. absurd (miss (others Command) 2 tt h))
+    (λ k g h. absurd (miss (others (Address k)) 3 tt h)) (λ k b h. absurd (miss (others (Barrier k)) 3 tt h))
+    (λ k b n h. absurd (miss (others (Count k b)) 3 tt h)) (λ h. absurd (miss (others Close) 4 tt h)) (λ h. absurd (miss (others Part) 5 tt h))
+
+pub refused : (s s′ : State) (t : Token) → s ≡ s′ → OneOf (others s′) (Declared.tagOf T.the-type t) → Refuse ≡ stepped s t
+refused s s′ t e h = rw e (refuses s′ t h)
+
+pub no-end : (s : State) → OneOf (0 ∷ 1 ∷ 2 ∷ 3 ∷ 4 ∷ []) (Declared.tagOf S.the-type s) → false ≡ ended s
+no-end Command h = refl
+no-end (Address k) h = refl
+no-end (Barrier k) h = refl
+no-end (Count k b) h = refl
+no-end Close h = refl
+no-end Part h = absurd (miss (0 ∷ 1 ∷ 2 ∷ 3 ∷ 4 ∷ []) 5 tt h)
+
+-- what goes on is of the notation
+pub step-fits : (s : State) (t : Token) → (next s t ≡ refuse → ⊥) → Fits t
+step-fits =
+    by-step (λ s t m. (move m ≡ refuse → ⊥) → Fits t) (λ s t h. absurd (h refl)) (λ k h. tt) (λ k h. tt) (λ h. tt) (λ k g h. tt) (λ k b h. tt) (λ k b n h. tt)
+    (λ h. tt) (λ h. tt)
