@@ -1,4 +1,4 @@
-// A case: a review, or the schedule writer and then the review of what it wrote.
+// A case of tables: a review, or the schedule writer and then the review of what it wrote.
 use crate::print::number;
 use crate::print::sheet;
 use crate::print::text;

@@ -2,72 +2,16 @@
 //     NAME: COMMANDS / LENGTHS / SIZES               the schedule writer, and the review of what it wrote
 //     NAME: COMMANDS / LENGTHS / SIZES / SCHEDULE    the review of a schedule that is given
 // SIZES are five: how many numbers the commands are, how many the lengths, each list being repeated where it is shorter; and how many places the rooms have for
-// the schedule, the relation and the generations.
-ghost use Prim.Native.Nat.{_≤_, _<_};
+// the schedule, the relation and the generations. A line that begins with a quotation mark is a text for the reader: see `texts`.
+ghost use Prim.Native.Nat.{_≤_};
 ghost use lib.ListN.{length};
 use crate::case::alone;
 use crate::case::given;
+use crate::fields::after;
+use crate::fields::numbers;
 use crate::room::least;
+use crate::texts;
 use libc::STDIN_FILENO;
-
-fn is_digit(byte: u8) -> bool {
-    (48 <= byte) & (byte <= 57)
-}
-
-// A number with one digit more, as 32 bits hold it; a byte that is no digit adds none.
-fn longer(number: u32, byte: u8) -> u32 {
-    if is_digit(byte) {
-        return ((number as u64 * 10 + (byte % 16) as u64) % 4294967296) as u32;
-    }
-    number
-}
-
-// 1 where a number's last digit stands, else 0.
-fn closes(text: &[u8], i: usize) -> usize
-    requires { ⌜ i < length (now text) ⌝ }
-    ensures { λ r. ⌜ r ≤ 1 ⌝ }
-{
-    if !is_digit(text[i]) {
-        return 0;
-    }
-    let next = i + 1;
-    if next < text.len() && is_digit(text[next]) {
-        return 0;
-    }
-    1
-}
-
-// The numbers of a text into a room of zeros, as far as they fit, and how many they are.
-fn numbers(text: &[u8], room: &mut [u32]) -> usize
-    ensures { λ r. ⌜ r ≤ length (now (room .exit)) ⌝ }
-{
-    let mut n = 0;
-    let mut i = 0;
-    while i < text.len() {
-        if room.len() <= n {
-            return n;
-        }
-        room[n] = longer(room[n], text[i]);
-        n += closes(text, i);
-        i += 1;
-    }
-    n
-}
-
-// The place after the next mark, or the end of the text.
-fn after(text: &[u8], from: usize, mark: u8) -> usize
-    requires { ⌜ from ≤ length (now text) ⌝ }
-    ensures { λ r. ⌜ (from ≤ r) × (r ≤ length (now (text .entry))) × (from < length (now (text .entry)) → from < r) ⌝ }
-{
-    let mut i = from;
-    while i < text.len() {
-        i += 1;
-        if text[i - 1] == mark {
-            return i;
-        }
-    }
-    i
-}
 
 // The first n words over and over, up to the size.
 fn repeat(room: &mut [u32], n: usize, size: usize)
@@ -116,8 +60,8 @@ fn sizes(text: &[u8]) -> [u32; 5] {
     sizes
 }
 
-// One line, its newline with it.
-fn line(text: &[u8]) {
+// A line of tables.
+fn of_tables(text: &[u8]) {
     let named = after(text, 0, b':');
     let first = after(text, named, b'/');
     let second = after(text, first, b'/');
@@ -130,6 +74,15 @@ fn line(text: &[u8]) {
         &text[third..],
         sizes,
     );
+}
+
+// One line, its newline with it.
+fn line(text: &[u8]) {
+    if 0 < text.len() && text[0] == b'"' {
+        texts::line(text);
+    } else {
+        of_tables(text);
+    }
 }
 
 // Line after line.

@@ -63,6 +63,24 @@ fn sum(words: &[u32], n: usize) -> u64
     sum
 }
 
+fn mixed_byte(sum: u64, byte: u8) -> u64
+    requires { ⌜ sum < 2 ^ 32 ⌝ }
+    ensures { λ r. ⌜ r < 2 ^ 32 ⌝ }
+{
+    mixed(sum, byte as u32)
+}
+
+// The sum of all bytes of a text.
+pub(crate) fn total(bytes: &[u8]) -> u64 {
+    let mut sum = 0;
+    let mut i = 0;
+    while i < bytes.len() {
+        sum = mixed_byte(sum, bytes[i]);
+        i += 1;
+    }
+    sum
+}
+
 // What a room holds: the words that were written, and how many places after them were kept.
 pub(crate) fn show(room: &[u32], dirt: u32) {
     let n = written(room, dirt);

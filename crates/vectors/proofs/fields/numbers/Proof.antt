@@ -3,8 +3,8 @@ use mathlib.Core.Path.{_≡_}
 use Prim.Native.Nat.{_≤_, _-_}
 use lib.ListN.{length}
 use borrow.Author.Needs.{needs}
-use Rattle.vectors.proofs.cases.numbers.Statement.{statement}
-use Rattle.vectors.proofs.cases.numbers.Tie as tie
+use Rattle.vectors.proofs.fields.numbers.Statement.{statement}
+use Rattle.vectors.proofs.fields.numbers.Tie as tie
 
 abbrev Inv-loop : tie.InvT-loop
 Inv-loop text room₀ n₀ i₀ room n i = (length room ≡ length room₀) × (n ≤ length room₀)

@@ -2,8 +2,8 @@
 use Prim.Native.Nat.{_≤_, _-_}
 use lib.ListN.{length}
 use borrow.Author.Needs.{needs}
-use Rattle.vectors.proofs.cases.after.Statement.{statement}
-use Rattle.vectors.proofs.cases.after.Tie as tie
+use Rattle.vectors.proofs.fields.after.Statement.{statement}
+use Rattle.vectors.proofs.fields.after.Tie as tie
 
 abbrev Inv-loop : tie.InvT-loop
 Inv-loop text from mark i₀ i = (from ≤ i) × (i ≤ length text)
