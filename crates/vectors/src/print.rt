@@ -3,6 +3,7 @@ ghost use Prim.Native.Nat.{_≤_};
 ghost use lib.ListN.{length};
 use libc::STDOUT_FILENO;
 use review::Sheet;
+use tables::Told;
 use tables::Verdict;
 
 pub(crate) fn text(bytes: &[u8]) {
@@ -30,11 +31,14 @@ pub(crate) fn word(w: u32) {
 }
 
 // A verdict's number and its two places.
-pub(crate) fn verdict(verdict: Verdict) {
-    let told = verdict.number();
+pub(crate) fn told(told: Told) {
     word(told.number);
     number(told.place);
     number(told.also);
+}
+
+pub(crate) fn verdict(verdict: Verdict) {
+    told(verdict.number());
 }
 
 // One place of a sheet: a pair that counts, or what stands where nothing should.

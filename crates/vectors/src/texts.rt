@@ -7,6 +7,7 @@ use crate::fields::before;
 use crate::fields::numbers;
 use crate::print::number;
 use crate::print::text;
+use crate::print::told;
 use crate::room::least;
 use crate::room::show;
 use crate::room::soil;
@@ -21,25 +22,17 @@ const COMMANDS: u32 = 0xC0DE0000;
 
 const LENGTHS: u32 = 0xFACE0000;
 
-// A reading's number and its two places.
-fn told(verdict: usize, place: usize) {
-    number(verdict);
-    number(place);
-    number(0);
-}
-
 // The answer, and how many commands and threads were found in a text that is accepted.
 fn answer(reading: Reading) {
+    told(reading.number());
     match reading {
-        Reading::Unfit(place) => told(12, place),
-        Reading::Over => told(13, 0),
         Reading::Accepted(commands, threads) => {
-            told(0, 0);
             text(b" commands");
             number(commands);
             text(b" threads");
             number(threads);
         }
+        _ => {}
     }
 }
 
