@@ -67,11 +67,11 @@ fn judge(text: &[u8]) -> Judged
     let mut threads = 0;
     loop {
         match token_at(text, at) {
-            Met::End(from) => {
+            Met::End(end) => {
                 if ends(state) {
                     return Judged::Passed(commands, threads);
                 }
-                return Judged::Refused(from);
+                return Judged::Refused(end);
             }
             Met::Token(token, from, next) => {
                 match step(state, token) {

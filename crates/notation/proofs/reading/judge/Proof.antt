@@ -22,13 +22,13 @@ returns : tie.Need-returns Inv-loop μ-loop
 returns c =
     let f = c .before .before .before in
     let x = f .before .before in
-    judging-passed _ _ _ _ _ (x .before .loop .inv) _ (sym (x .token-at .ensures) ∙ f .from .given .1) (sym (c .before .ends .ensures) ∙ c .if1 .taken)
+    judging-passed _ _ _ _ _ (x .before .loop .inv) _ (sym (x .token-at .ensures) ∙ f .end .given .1) (sym (c .before .ends .ensures) ∙ c .if1 .taken)
 
 returns-2 : tie.Need-returns-2 Inv-loop μ-loop
 returns-2 c =
     let f = c .before .before .before in
     let x = f .before .before in
-    judging-short _ _ _ _ _ (x .before .loop .inv) _ (sym (x .token-at .ensures) ∙ f .from .given .1) (sym (c .before .ends .ensures) ∙ c .if1 .left)
+    judging-short _ _ _ _ _ (x .before .loop .inv) _ (sym (x .token-at .ensures) ∙ f .end .given .1) (sym (c .before .ends .ensures) ∙ c .if1 .left)
 
 -- a token
 returns-3 : tie.Need-returns-3 Inv-loop μ-loop

@@ -16,7 +16,7 @@ abbrev μ-loop : tie.MeasureT-loop
 μ-loop bytes word i₀ i = length bytes - i
 
 returns : tie.Need-returns Inv-loop μ-loop
-returns c = sym (alike-long _ _ (c .if1 .taken))
+returns c = sym (alike-long _ _ (λ e. omega (arith, e, c .if1 .taken)))
 
 returns-2 : tie.Need-returns-2 Inv-loop μ-loop
 returns-2 c =
