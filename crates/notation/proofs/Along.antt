@@ -1,14 +1,12 @@
 -- What is found from a place of a text on, token by token: the laws behind the two passes. Assumes nothing.
-use mathlib.Core.Path.{_≡_, refl, ap, sym, _∙_}
-use mathlib.Core.Logic.{⊎-elim}
+use mathlib.Core.Path.{_≡_, refl, sym, _∙_}
 use mathlib.Core.Bool.{Bool, true, false, cond, true≢false}
-use mathlib.Mathlib.Data.Bool.Basic.{dichotomy}
 use mathlib.Core.List.{List, [], _∷_}
 use mathlib.Core.Option.{Option, none, some}
-use Prim.Native.Nat.{ℕ, suc, _+_, _≤_, _<_}
+use Prim.Native.Nat.{ℕ, _+_, _≤_, _<_}
 use native.Mathlib.Omega.{arith}
 use lib.Dec.{eqb}
-use lib.ListN.{length, getD, drop}
+use lib.ListN.{length, drop}
 use borrow.Author.Tests.{eqb-true, eqb-false}
 use Rattle.spelling.specs.Bytes.{blanks, skip}
 use Rattle.spelling.specs.Tokens as T
@@ -19,9 +17,7 @@ use Rattle.notation.specs.declared.tokens.Met.{Met}
 use Rattle.notation.specs.declared.tokens.Met.the-variants as M
 use Rattle.notation.specs.declared.automaton.State.{State}
 use Rattle.notation.specs.declared.automaton.Moved.{Moved}
-use Rattle.notation.specs.declared.automaton.Moved.the-variants.{Refuse, On, Row, Thread}
-use Rattle.notation.specs.declared.reading.Judged.{Judged}
-use Rattle.notation.specs.Tokens.{tokenOf, sizeOf, metIn, tokenAt}
+use Rattle.notation.specs.Tokens.{tokenOf, sizeOf, tokenAt}
 use Rattle.notation.specs.Automaton.{stepped, ended, move, next}
 use Rattle.notation.specs.Reading.{judgedBy}
 use Rattle.notation.proofs.Lexes.{pos, most}
@@ -40,7 +36,7 @@ token-by s p t from nxt false e q = let n = eqb-false (length s) 0 e in (omega (
 
 module _ (text : List ℕ) where
   -- the tokens from a place on, their places, and what is found in them from a state, with n rows of the thread so far
-  abbrev pub tokensFrom : ℕ → List Token
+  abbrev tokensFrom : ℕ → List Token
   tokensFrom at = T.tokens sizeOf tokenOf (drop at text)
 
   abbrev pub startsFrom : ℕ → List ℕ

@@ -1,23 +1,22 @@
 -- The automaton takes the tokens of programs and no others, and from each of its states a text can be ended. Assumes nothing.
 use mathlib.Core.Path.{_≡_, refl, ap, sym, subst, _∙_}
 use mathlib.Core.Bool.{true, true≢false}
-use mathlib.Core.List.{List, [], _∷_, _++_, append-nil, append-assoc}
+use mathlib.Core.List.{List, [], _∷_, _++_}
 use Prim.Native.Nat.{ℕ}
 use native.Mathlib.Omega.{arith}
 use Rattle.spelling.specs.Bytes.{classOf, run}
 use Rattle.spelling.specs.Numbers.{mostNumber, decimal, Means}
 use Rattle.spelling.specs.Spells.{none, gap, token}
-use Rattle.spelling.specs.Machine.{found}
 use Rattle.spelling.proofs.Laws.{Lexer, Grammar, To, Goes, Walk}
 use Rattle.spelling.proofs.Machines.{found-none}
 use Rattle.notation.specs.declared.tokens.Token.{Token}
-use Rattle.notation.specs.declared.tokens.Token.the-variants.{Access, Signal, Return, Number, Semi, Bars, Misfit}
+use Rattle.notation.specs.declared.tokens.Token.the-variants.{Access, Signal, Return, Number, Semi, Bars}
 use Rattle.notation.specs.declared.automaton.State.{State}
 use Rattle.notation.specs.declared.automaton.State.the-variants.{Command, Address, Barrier, Count, Close, Part}
-use Rattle.notation.specs.declared.automaton.Moved.{Moved}
-use Rattle.notation.specs.Tokens.{sizeOf, tokenOf, Spelling, extends, returnWord}
+use Rattle.notation.specs.Tokens.{sizeOf, tokenOf}
+use Rattle.notation.specs.Spelling.{Spelling, extends, returnWord}
 use Rattle.notation.specs.Grammar as G
-use Rattle.notation.specs.Grammar.{access, signal, threadTokens, behind, Program, programTokens, Whole, Spells}
+use Rattle.notation.specs.Grammar.{access, signal, threadTokens, behind, programTokens, Whole, Spells}
 use Rattle.notation.specs.Automaton.{stepped, ended, move, next}
 use Rattle.notation.proofs.Lexes.{Fits, token-found, size-found, some, tight, spelt, apart, pos, most, blank-ends}
 use Rattle.notation.proofs.Steps.{by-step}

@@ -18,7 +18,8 @@ use Rattle.spelling.proofs.Numbers.{means-number}
 use Rattle.notation.specs.declared.tokens.Token.{Token}
 use Rattle.notation.specs.declared.tokens.Token.the-variants.{Access, Signal, Return, Number, Semi, Bars, Misfit}
 use Rattle.notation.specs.declared.tokens.Piece.{Piece}
-use Rattle.notation.specs.Tokens.{readWord, writeWord, arriveWord, syncWord, returnWord, Spelling, extends, wordOf, numeral, numberOf, sized, markOf, pieceOf, tokenOf, sizeOf}
+use Rattle.notation.specs.Spelling.{readWord, writeWord, arriveWord, syncWord, returnWord, Spelling, extends}
+use Rattle.notation.specs.Tokens.{wordOf, numeral, numberOf, sized, markOf, pieceOf, tokenOf, sizeOf}
 use Rattle.notation.proofs.Pieces.{by-word, by-number, by-piece, word-piece, number-piece}
 pub use Rattle.notation.proofs.Pieces.{pos, most}
 

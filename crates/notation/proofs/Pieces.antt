@@ -15,13 +15,14 @@ use Rattle.spelling.specs.Numbers.{numeralOf, Means}
 use Rattle.spelling.specs.declared.number.Numeral.{Numeral}
 use Rattle.spelling.specs.declared.number.Numeral.the-variants as N
 use Rattle.spelling.proofs.Runs.{run-pos-at, run-le}
-use Rattle.spelling.proofs.Words.{alike-same}
+use Rattle.spelling.proofs.Words.{both, alike-same}
 use Rattle.spelling.proofs.Numbers.{number-means}
 use Rattle.notation.specs.declared.tokens.Token.{Token}
 use Rattle.notation.specs.declared.tokens.Token.the-variants.{Access, Signal, Return, Number, Semi, Bars, Misfit}
 use Rattle.notation.specs.declared.tokens.Piece.{Piece}
 use Rattle.notation.specs.declared.tokens.Met.the-variants as M
-use Rattle.notation.specs.Tokens.{readWord, writeWord, arriveWord, syncWord, returnWord, wordOf, numeral, numberOf, sized, markOf, pieceOf, sizeOf, tokenAt}
+use Rattle.notation.specs.Spelling.{readWord, writeWord, arriveWord, syncWord, returnWord}
+use Rattle.notation.specs.Tokens.{wordOf, numeral, numberOf, sized, markOf, pieceOf, sizeOf, tokenAt}
 
 -- with the answers of its tests
 pub word-is : (w : List ℕ) (a b c d e : Bool)
@@ -52,10 +53,6 @@ module _ (s : List ℕ) where
     pub mark-piece : (k ≡ letter → ⊥) → (k ≡ digit → ⊥) → markOf s ≡ pieceOf s
     unfolding pieceOf
     mark-piece n m = rw (← c, ne-eqb k letter n, ne-eqb k digit m)
-
-both : (a b : Bool) → (a && b) ≡ true → (a ≡ true) × (b ≡ true)
-both true b e = (refl, e)
-both false b e = absurd (true≢false (sym e))
 
 -- a property of a word's token holds of every one, once it holds of each word and of a misfit; so for numbers and pieces
 by-test : {A : Type 0} (P : A → Type 0) (t : Bool) {x y : A} → (t ≡ true → P x) → (t ≡ false → P y) → P (cond t x y)

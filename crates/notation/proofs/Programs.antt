@@ -1,17 +1,16 @@
 -- What is found in a program's tokens is the program's two tables; and tokens are those of one program only. Assumes nothing.
-use mathlib.Core.Path.{_≡_, refl, ap, sym, _∙_}
+use mathlib.Core.Path.{_≡_, refl, ap, _∙_}
 use mathlib.Core.Bool.{true≢false}
-use mathlib.Core.List.{List, [], _∷_, _++_, map, append-nil, append-assoc}
+use mathlib.Core.List.{List, [], _∷_, _++_, map}
 use mathlib.Core.Option.{none}
 use Prim.Native.Nat.{ℕ, suc, _+_}
 use native.Mathlib.Omega.{arith}
 use lib.ListN.{length}
-use Rattle.spelling.specs.Machine.{Row, Outcome, outcome, found, flat}
+use Rattle.spelling.specs.Machine.{Row, outcome, found}
 use Rattle.notation.specs.declared.tokens.Token.{Token}
-use Rattle.notation.specs.declared.tokens.Token.the-variants.{Access, Signal, Return, Number, Semi, Bars}
 use Rattle.notation.specs.declared.automaton.State.the-variants.{Command, Part}
 use Rattle.notation.specs.Grammar as G
-use Rattle.notation.specs.Grammar.{access, signal, threadTokens, behind, Program, programTokens, rowOf, joined, threads, programRows, programLengths}
+use Rattle.notation.specs.Grammar.{access, signal, threadTokens, behind, Program, programTokens, rowOf, joined, programRows, programLengths}
 use Rattle.notation.specs.Automaton.{stepped, ended, next}
 
 -- a thread's tokens, where what follows them is found to be rows and lengths

@@ -2,7 +2,7 @@
 use mathlib.Core.Path.{_≡_, refl, ap, sym, subst, _∙_}
 use mathlib.Core.Logic.{_⊎_, inl, inr}
 use mathlib.Core.Bool.{Bool, true, false, cond, _||_, true≢false}
-use mathlib.Core.List.{List, [], _∷_, map}
+use mathlib.Core.List.{List}
 use mathlib.Core.Option.{Option, none, some}
 use Prim.Native.Nat.{ℕ, _*_, _/_, _≤_, _<_}
 use native.Mathlib.Omega.{arith}
@@ -21,15 +21,17 @@ use Rattle.notation.specs.declared.reading.Judged.the-variants.{Refused,
 use Rattle.notation.specs.declared.reading.Reading.{Reading}
 use Rattle.notation.specs.declared.reading.Reading.the-variants.{Unfit, Over, Accepted}
 use Rattle.notation.specs.Grammar as G
-use Rattle.notation.specs.Grammar.{Program, programTokens, Denotes, Spells, rowOf, joined, threads, programRows, programLengths}
+use Rattle.notation.specs.Grammar.{Program, Denotes, Spells, rowOf, joined, threads, programRows, programLengths}
 use Rattle.notation.specs.Automaton.{next, ended}
-use Rattle.notation.specs.Reading.{mostBytes, tokens, starts, readOf, rowNumbers, threadLengths, judgedBy, judgedOf, answer, answered, tooMany, answerOf, reading, written, Within, Holds, RefusedAt, ByGrammar, Read, Rooms}
+use Rattle.notation.specs.Reading.{mostBytes, readOf, rowNumbers, threadLengths, judgedBy, judgedOf, answer, answered, tooMany, answerOf, reading, written, Rooms}
+use Rattle.notation.specs.Tokens.{tokens, starts}
+use Rattle.notation.specs.Promise.{Within, Holds, RefusedAt, ByGrammar, Read}
 use Rattle.notation.proofs.Programs.{program-found, program-one}
 use Rattle.notation.proofs.Grammars.{lexer, grammar}
 use Rattle.notation.proofs.Passes.{flat-long}
 
 -- a text that denotes a program: what is found in it are the program's tables
-pub denoted-found : (text : List ℕ) (x : Program) → Denotes text x → readOf text ≡ outcome (programRows x) (programLengths x) none
+denoted-found : (text : List ℕ) (x : Program) → Denotes text x → readOf text ≡ outcome (programRows x) (programLengths x) none
 denoted-found text x d = ap (λ (ts : List Token). found next ended ts Command 0) (spelt-tokens lexer d) ∙ program-found x
 
 many-rows : (x : Program) → length (programRows x) ≡ length (joined (threads x))
@@ -38,7 +40,7 @@ many-rows x = length-map (joined (threads x)) rowOf
 many-lengths : (x : Program) → length (programLengths x) ≡ length (threads x)
 many-lengths x = length-map (threads x) (λ (t : List G.Command). length t)
 
-pub denoted-judged : (text : List ℕ) (x : Program) → Denotes text x → judgedOf text ≡ Passed (length (joined (threads x))) (length (threads x))
+denoted-judged : (text : List ℕ) (x : Program) → Denotes text x → judgedOf text ≡ Passed (length (joined (threads x))) (length (threads x))
 unfolding judgedOf
 denoted-judged text x d = rw (denoted-found text x d, many-rows x, many-lengths x)
 
@@ -64,7 +66,7 @@ refused-judged text p h = by-judged (judgedOf text) (says text)
     by-judged (Passed m t) (x, d) = absurd (R.refused-not h (x, spelt-tokens lexer d))
 
 -- document 01's numbers tell the answers apart
-pub answered-one : (r q : Reading) → answered r ≡ answered q → r ≡ q
+answered-one : (r q : Reading) → answered r ≡ answered q → r ≡ q
 answered-one (Unfit p) (Unfit q) e = ap Unfit (ap (λ a. a .told .place) e)
 answered-one (Unfit p) Over e = let z : _≡_ {A = ℕ} 12 13 = ap (λ a. a .told .number) e in absurd (omega arith)
 answered-one (Unfit p) (Accepted m t) e = let z : _≡_ {A = ℕ} 12 0 = ap (λ a. a .told .number) e in absurd (omega arith)
@@ -181,7 +183,7 @@ module _ (text commands lengths commands′ lengths′ : List ℕ) (r : Reading)
           lens = lens ∙ ap (λ (z : Reading). written z (threadLengths text) lengths) q ∙ ap (λ (o : Outcome). over (o .lengths) lengths) (denoted-found text x d);
         }
 
-    pub grammatical : ByGrammar text commands lengths commands′ lengths′ r
+    grammatical : ByGrammar text commands lengths commands′ lengths′ r
     grammatical =
         record {
           accepts = accepts;

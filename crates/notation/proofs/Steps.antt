@@ -3,7 +3,6 @@ use mathlib.Core.Path.{_≡_, refl}
 use mathlib.Core.Bool.{false}
 use mathlib.Core.List.{List, [], _∷_}
 use Prim.Native.Nat.{ℕ}
-use Rattle.spelling.specs.Machine.{refuse}
 use types.Run.{OneOf, miss}
 use denote.Enum.Declared
 use Rattle.notation.specs.declared.tokens.Token.{Token}
@@ -12,14 +11,13 @@ use Rattle.notation.specs.declared.automaton.State.{State}
 use Rattle.notation.specs.declared.automaton.State.the-variants.{Command, Address, Barrier, Count, Close, Part}
 use Rattle.notation.specs.declared.automaton.Moved.{Moved}
 use Rattle.notation.specs.declared.automaton.Moved.the-variants.{Refuse, On, Row, Thread}
-use Rattle.notation.specs.Automaton.{atCommand, atNumber, atClose, atPart, stepped, ended, move, next}
-use Rattle.notation.proofs.Lexes.{Fits}
+use Rattle.notation.specs.Automaton.{atCommand, atNumber, atClose, atPart, stepped, ended, move}
 use Rattle.notation.proofs.tokens.Token as T
 use Rattle.notation.proofs.automaton.State as S
 
 -- a property of a token and its move holds of every token, once it holds of those that go on and of refusal
 module _ (P : Token → Moved → Type 0) (off : (t : Token) → P t Refuse) where
-  pub by-command : ((k : ℕ) → P (Access k) (On (Address k))) → ((k : ℕ) → P (Signal k) (On (Barrier k))) → P Return Thread → (t : Token) → P t (atCommand t)
+  by-command : ((k : ℕ) → P (Access k) (On (Address k))) → ((k : ℕ) → P (Signal k) (On (Barrier k))) → P Return Thread → (t : Token) → P t (atCommand t)
   by-command a s r (Access k) = a k
   by-command a s r (Signal k) = s k
   by-command a s r Return = r
@@ -28,7 +26,7 @@ module _ (P : Token → Moved → Type 0) (off : (t : Token) → P t Refuse) whe
   by-command a s r Bars = off Bars
   by-command a s r Misfit = off Misfit
 
-  pub by-number : (f : ℕ → Moved) → ((n : ℕ) → P (Number n) (f n)) → (t : Token) → P t (atNumber f t)
+  by-number : (f : ℕ → Moved) → ((n : ℕ) → P (Number n) (f n)) → (t : Token) → P t (atNumber f t)
   by-number f y (Access k) = off (Access k)
   by-number f y (Signal k) = off (Signal k)
   by-number f y Return = off Return
@@ -37,7 +35,7 @@ module _ (P : Token → Moved → Type 0) (off : (t : Token) → P t Refuse) whe
   by-number f y Bars = off Bars
   by-number f y Misfit = off Misfit
 
-  pub by-close : P Semi (On Command) → (t : Token) → P t (atClose t)
+  by-close : P Semi (On Command) → (t : Token) → P t (atClose t)
   by-close y (Access k) = off (Access k)
   by-close y (Signal k) = off (Signal k)
   by-close y Return = off Return
@@ -46,7 +44,7 @@ module _ (P : Token → Moved → Type 0) (off : (t : Token) → P t Refuse) whe
   by-close y Bars = off Bars
   by-close y Misfit = off Misfit
 
-  pub by-part : P Bars (On Command) → (t : Token) → P t (atPart t)
+  by-part : P Bars (On Command) → (t : Token) → P t (atPart t)
   by-part y (Access k) = off (Access k)
   by-part y (Signal k) = off (Signal k)
   by-part y Return = off Return
@@ -97,7 +95,3 @@ no-end Close h = refl
 no-end Part h = absurd (miss (0 ∷ 1 ∷ 2 ∷ 3 ∷ 4 ∷ []) 5 tt h)
 
 -- what goes on is of the notation
-pub step-fits : (s : State) (t : Token) → (next s t ≡ refuse → ⊥) → Fits t
-step-fits =
-    by-step (λ s t m. (move m ≡ refuse → ⊥) → Fits t) (λ s t h. absurd (h refl)) (λ k h. tt) (λ k h. tt) (λ h. tt) (λ k g h. tt) (λ k b h. tt) (λ k b n h. tt)
-    (λ h. tt) (λ h. tt)

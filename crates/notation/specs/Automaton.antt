@@ -1,6 +1,5 @@
 -- The reader, token by token.
 use mathlib.Core.Bool.{Bool, true, false}
-use mathlib.Core.List.{List}
 use Prim.Native.Nat.{ℕ}
 use Rattle.spelling.specs.Machine.{Move, refuse, on, rows, thread, row}
 use Rattle.notation.specs.declared.tokens.Token.{Token}

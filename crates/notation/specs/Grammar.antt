@@ -7,7 +7,7 @@ use Rattle.spelling.specs.Machine.{Row, row}
 use Rattle.spelling.specs.Spells as S
 use Rattle.notation.specs.declared.tokens.Token.{Token}
 use Rattle.notation.specs.declared.tokens.Token.the-variants.{Access, Signal, Return, Number, Semi, Bars}
-use Rattle.notation.specs.Tokens.{Spelling, extends}
+use Rattle.notation.specs.Spelling.{Spelling, extends}
 
 -- a command: an access of a kind to an address; a signal of a kind to a barrier, with a count
 pub data Command : Type 0 where

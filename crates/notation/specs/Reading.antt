@@ -1,39 +1,27 @@
 -- What a reading answers, and what the lent tables then hold.
-use mathlib.Core.Path.{_≡_}
-use mathlib.Core.Logic.{_⊎_}
 use mathlib.Core.Bool.{Bool, cond, _||_}
 use mathlib.Core.List.{List, []}
 use mathlib.Core.Option.{Option, none, some}
-use Prim.Native.Nat.{ℕ, _*_, _/_, _≤_, _<_}
+use Prim.Native.Nat.{ℕ, _/_, _≤_}
 use lib.Dec.{ltb}
 use lib.ListN.{length, getD, drop}
 use Rattle.tables.specs.Limits.{mostRows, mostThreads}
 use Rattle.tables.specs.Verdicts.{tell}
 use Rattle.tables.specs.declared.verdict.Told.{Told}
-use Rattle.spelling.specs.Tokens as T
 use Rattle.spelling.specs.Machine.{Outcome, found, flat}
-use Rattle.spelling.specs.Refusal as R
 use Rattle.spelling.specs.Over.{over}
-use Rattle.notation.specs.declared.tokens.Token.{Token}
 use Rattle.notation.specs.declared.automaton.State.the-variants.{Command}
 use Rattle.notation.specs.declared.reading.Judged.{Judged}
 use Rattle.notation.specs.declared.reading.Judged.the-variants.{Refused, Passed}
 use Rattle.notation.specs.declared.reading.Reading.{Reading}
 use Rattle.notation.specs.declared.reading.Reading.the-variants.{Unfit, Over, Accepted}
-use Rattle.notation.specs.Tokens.{tokenOf, sizeOf}
-use Rattle.notation.specs.Grammar.{Program, Denotes, Spells, Whole, joined, threads, programRows, programLengths}
+use Rattle.notation.specs.Tokens.{tokens, starts}
+use Rattle.notation.specs.Grammar.{threads}
 use Rattle.notation.specs.Automaton.{next, ended}
 
 -- a text has at most so many bytes
 unfoldable pub mostBytes : ℕ
 mostBytes = 32768
-
--- the tokens of a text, and their places
-abbrev pub tokens : List ℕ → List Token
-tokens text = T.tokens sizeOf tokenOf text
-
-abbrev pub starts : List ℕ → List ℕ
-starts text = T.starts sizeOf text 0
 
 -- what is found in a text
 abbrev pub readOf : List ℕ → Outcome
@@ -98,42 +86,3 @@ pub record Rooms (text commands lengths : List ℕ) : Type 0 where
   pub few-threads : length (threadLengths text) ≤ mostThreads
   pub rows : length (rowNumbers text) ≤ length commands
   pub lens : length (threadLengths text) ≤ length lengths
-
--- a program within the limits of a reading
-pub record Within (text : List ℕ) (c l : ℕ) (x : Program) : Type 0 where
-  pub bytes : length text ≤ mostBytes
-  pub few-rows : length (joined (threads x)) ≤ mostRows
-  pub few-threads : length (threads x) ≤ mostThreads
-  pub room : length (joined (threads x)) * 3 ≤ c
-  pub places : length (threads x) ≤ l
-
--- the reading is that program's two tables, and how many commands and threads they have
-pub record Holds (commands lengths commands′ lengths′ : List ℕ) (r : Reading) (x : Program) : Type 0 where
-  pub many : r ≡ Accepted (length (joined (threads x))) (length (threads x))
-  pub rows : commands′ ≡ over (flat (programRows x)) commands
-  pub lens : lengths′ ≡ over (programLengths x) lengths
-
-abbrev pub RefusedAt : List ℕ → ℕ → Type 0
-RefusedAt text p = R.Refused Spells Whole text (tokens text) (starts text) p
-
--- The promise by the grammar alone.
-pub record ByGrammar (text commands lengths commands′ lengths′ : List ℕ) (r : Reading) : Type 0 where
-  -- a text that denotes a program within the limits is read as that program
-  pub accepts : (x : Program) → Denotes text x → Within text (length commands) (length lengths) x → Holds commands lengths commands′ lengths′ r x
-  -- what is accepted denotes one
-  pub accepted : (m t : ℕ) → r ≡ Accepted m t → (x : Program) × Denotes text x × Within text (length commands) (length lengths) x
-  -- no text denotes two
-  pub one : (x y : Program) → Denotes text x → Denotes text y → x ≡ y
-  -- 12 exactly at the place where a text that is not too long is refused
-  pub refuses : (p : ℕ) → r ≡ Unfit p → (length text ≤ mostBytes) × RefusedAt text p
-  pub refused : (p : ℕ) → length text ≤ mostBytes → RefusedAt text p → r ≡ Unfit p
-  -- 13 for a text that is too long, or denotes a program that is not within the limits
-  pub too-much : r ≡ Over
-      → (mostBytes < length text) ⊎ ((x : Program) × Denotes text x × ¬ Within text (length commands) (length lengths) x)
-
--- The promise by equation, and by the grammar.
-pub record Read (text commands lengths commands′ lengths′ : List ℕ) (r : Reading) : Type 0 where
-  pub answers : answered r ≡ reading text (length commands) (length lengths)
-  pub rows-hold : commands′ ≡ written r (rowNumbers text) commands
-  pub lengths-hold : lengths′ ≡ written r (threadLengths text) lengths
-  pub by-grammar : ByGrammar text commands lengths commands′ lengths′ r

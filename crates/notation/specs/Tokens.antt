@@ -1,15 +1,14 @@
--- Tokens: a longest run of lower-case letters, a longest run of digits, `;`, `||`.
-use mathlib.Core.Path.{_≡_}
-use mathlib.Core.Logic.{_⊎_}
-use mathlib.Core.Bool.{Bool, false, cond, _&&_}
-use mathlib.Core.List.{List, [], _∷_}
+-- The token that bytes begin with, and the token at a place of a text.
+use mathlib.Core.Bool.{cond, _&&_}
+use mathlib.Core.List.{List}
 use Prim.Native.Nat.{ℕ, _+_}
 use lib.Dec.{eqb}
 use lib.ListN.{length, getD, take, drop}
 use Rattle.tables.specs.Rows.{read, write, arrive, sync}
-use Rattle.spelling.specs.Bytes.{classOf, is, letter, digit, run, blanks, skip}
+use Rattle.spelling.specs.Bytes.{is, letter, digit, run, blanks, skip}
 use Rattle.spelling.specs.Words.{alike}
-use Rattle.spelling.specs.Numbers.{numeralOf, Means}
+use Rattle.spelling.specs.Numbers.{numeralOf}
+use Rattle.spelling.specs.Tokens as T
 use Rattle.spelling.specs.declared.number.Numeral.{Numeral}
 use Rattle.spelling.specs.declared.number.Numeral.the-variants as N
 use Rattle.notation.specs.declared.tokens.Token.{Token}
@@ -17,42 +16,7 @@ use Rattle.notation.specs.declared.tokens.Token.the-variants.{Access, Si
 use Rattle.notation.specs.declared.tokens.Piece.{Piece}
 use Rattle.notation.specs.declared.tokens.Met.{Met}
 use Rattle.notation.specs.declared.tokens.Met.the-variants as M
-
--- the words
-abbrev pub readWord : List ℕ
-readWord = 114 ∷ 101 ∷ 97 ∷ 100 ∷ []
-
-abbrev pub writeWord : List ℕ
-writeWord = 119 ∷ 114 ∷ 105 ∷ 116 ∷ 101 ∷ []
-
-abbrev pub arriveWord : List ℕ
-arriveWord = 97 ∷ 114 ∷ 114 ∷ 105 ∷ 118 ∷ 101 ∷ []
-
-abbrev pub syncWord : List ℕ
-syncWord = 115 ∷ 121 ∷ 110 ∷ 99 ∷ []
-
-abbrev pub returnWord : List ℕ
-returnWord = 114 ∷ 101 ∷ 116 ∷ 117 ∷ 114 ∷ 110 ∷ []
-
--- the bytes spell the token
-abbrev pub Spelling : List ℕ → Token → Type 0
-Spelling w (Access k) = ((k ≡ read) × (w ≡ readWord)) ⊎ ((k ≡ write) × (w ≡ writeWord))
-Spelling w (Signal k) = ((k ≡ arrive) × (w ≡ arriveWord)) ⊎ ((k ≡ sync) × (w ≡ syncWord))
-Spelling w Return = w ≡ returnWord
-Spelling w (Number n) = Means w n
-Spelling w Semi = w ≡ 59 ∷ []
-Spelling w Bars = w ≡ 124 ∷ 124 ∷ []
-Spelling w Misfit = ⊥
-
--- a word goes as far as its letters do, a number as far as its digits
-abbrev pub extends : Token → ℕ → Bool
-extends (Access k) b = is letter b
-extends (Signal k) b = is letter b
-extends Return b = is letter b
-extends (Number n) b = is digit b
-extends Semi b = false
-extends Bars b = false
-extends Misfit b = false
+use Rattle.notation.specs.Spelling.{readWord, writeWord, arriveWord, syncWord, returnWord}
 
 -- the token of a run of letters, of a run of digits, and of a list that begins with neither
 unfoldable pub wordOf : List ℕ → Token
@@ -93,3 +57,10 @@ metIn s from = cond (eqb (length s) 0) (M.End from) (M.Token (tokenOf s) from (f
 
 unfoldable pub tokenAt : List ℕ → ℕ → Met
 tokenAt text at = metIn (skip (drop at text)) (at + blanks (drop at text))
+
+-- the tokens of a text, and their places
+abbrev pub tokens : List ℕ → List Token
+tokens text = T.tokens sizeOf tokenOf text
+
+abbrev pub starts : List ℕ → List ℕ
+starts text = T.starts sizeOf text 0

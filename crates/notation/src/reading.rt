@@ -2,7 +2,8 @@
 ghost use mathlib.Core.Path.{_≡_};
 ghost use Prim.Native.Nat.{_+_, _≤_};
 ghost use lib.ListN.{length, set};
-ghost use Rattle.notation.specs.Reading.{answered, judgedOf, rowNumbers, threadLengths, tooMany, Rooms, Read, restOf};
+ghost use Rattle.notation.specs.Reading.{answered, judgedOf, rowNumbers, threadLengths, tooMany, Rooms, restOf};
+ghost use Rattle.notation.specs.Promise.{Read};
 ghost use Rattle.spelling.specs.Over.{over};
 use crate::automaton::Moved;
 use crate::automaton::State;

@@ -7,7 +7,7 @@ use Prim.Native.Nat.{ℕ, zero, suc, _+_, _≤_, _<_}
 use native.Mathlib.Decide.{decLt}
 use native.Mathlib.Omega.{arith}
 use lib.Dec.{eqb}
-use lib.ListN.{length, drop, length-drop}
+use lib.ListN.{length, drop, length-drop, length-map}
 use lib.Seq.{drop-drop}
 use borrow.Author.Tests.{eq-eqb, ne-eqb, eqb-false}
 use Rattle.spelling.specs.Bytes.{is, blank, blanks, skip}
@@ -17,10 +17,6 @@ use Rattle.spelling.proofs.Runs.{run-le}
 same-rest : {A B : Type 0} (g : A → B) (b : Bool) (z x y : A) → (b ≡ false → g x ≡ g y) → g (cond b z x) ≡ g (cond b z y)
 same-rest g true z x y f = refl
 same-rest g false z x y f = f refl
-
-length-map : {A B : Type 0} (f : A → B) (l : List A) → length (map f l) ≡ length l
-length-map f [] = refl
-length-map f (x ∷ l) = ap suc (length-map f l)
 
 pub length-skip : (s : List ℕ) → blanks s + length (skip s) ≡ length s
 length-skip s = omega (arith, length-drop (blanks s) s, run-le (is blank) s)
@@ -49,7 +45,7 @@ module _ (size : List ℕ → ℕ) (pos : (s : List ℕ) → 0 < length s → 0 
   fuel-step n m s p f =
       same-rest (λ (l : List Cut). l) (eqb (length (skip s)) 0) [] _ _ (λ e. ap (λ (l : List Cut). cut (p + blanks s) (skip s) ∷ l) (f e))
 
-  pub cuts-fuel : (n m : ℕ) (s : List ℕ) (p : ℕ) → length s ≤ n → length s ≤ m → cutsN size n s p ≡ cutsN size m s p
+  cuts-fuel : (n m : ℕ) (s : List ℕ) (p : ℕ) → length s ≤ n → length s ≤ m → cutsN size n s p ≡ cutsN size m s p
   cuts-fuel zero m s p h g = cuts-empty zero s p h ∙ sym (cuts-empty m s p h)
   cuts-fuel (suc n) zero s p h g = cuts-empty (suc n) s p g ∙ sym (cuts-empty zero s p g)
   cuts-fuel (suc n) (suc m) s p h g =
@@ -62,11 +58,11 @@ module _ (size : List ℕ → ℕ) (pos : (s : List ℕ) → 0 < length s → 0 
       ∙ fuel-step (length s) (length (later size s)) s p
       (λ e. cuts-fuel (length s) (length (later size s)) (later size s) _ (omega (arith, shorter s e)) (omega arith))
 
-  pub cuts-end : (s : List ℕ) (p : ℕ) → length (skip s) ≡ 0 → cuts size s p ≡ []
+  cuts-end : (s : List ℕ) (p : ℕ) → length (skip s) ≡ 0 → cuts size s p ≡ []
   unfolding cutsN
   cuts-end s p e = cuts-step s p ∙ rw (eq-eqb (length (skip s)) 0 e)
 
-  pub cuts-on : (s : List ℕ) (p : ℕ) → 0 < length (skip s)
+  cuts-on : (s : List ℕ) (p : ℕ) → 0 < length (skip s)
       → cuts size s p ≡ cut (p + blanks s) (skip s) ∷ cuts size (later size s) (p + blanks s + size (skip s))
   unfolding cutsN
   cuts-on s p h = cuts-step s p ∙ rw (ne-eqb (length (skip s)) 0 (λ e. omega arith))
@@ -89,12 +85,12 @@ module _ (size : List ℕ → ℕ) (pos : (s : List ℕ) → 0 < length s → 0 
     anywhere (suc n) s p q =
         same-rest (map tok) (eqb (length (skip s)) 0) [] _ _ (λ e. ap (λ (l : List T). token (skip s) ∷ l) (anywhere n (later size s) _ _))
 
-    pub tokens-anywhere : (s : List ℕ) (p : ℕ) → map (λ (c : Cut). token (c .bytes)) (cuts size s p) ≡ tokens size token s
+    tokens-anywhere : (s : List ℕ) (p : ℕ) → map (λ (c : Cut). token (c .bytes)) (cuts size s p) ≡ tokens size token s
     tokens-anywhere s p = anywhere (length s) s p 0
 
     pub starts-tokens : (s : List ℕ) (p : ℕ) → length (starts size s p) ≡ length (tokens size token s)
     starts-tokens s p =
-        length-map (λ (c : Cut). c .place) (cuts size s p) ∙ sym (length-map tok (cuts size s p)) ∙ ap length (tokens-anywhere s p)
+        length-map (cuts size s p) (λ (c : Cut). c .place) ∙ sym (length-map (cuts size s p) tok) ∙ ap length (tokens-anywhere s p)
 
     pub tokens-end : (s : List ℕ) → length (skip s) ≡ 0 → tokens size token s ≡ []
     tokens-end s e = ap (map tok) (cuts-end s 0 e)
@@ -130,9 +126,6 @@ module _ (size : List ℕ → ℕ) (pos : (s : List ℕ) → 0 < length s → 0 
         let d = length-drop at text in
         let o = pos (skip rest) h in
         (omega arith, omega arith, omega arith)
-
-    pub cuts-next : 0 < length (skip rest) → cuts size rest at ≡ cut (at + blanks rest) (skip rest) ∷ cuts size (drop next text) next
-    cuts-next h = rw later-rest at (cuts-on rest at h)
 
     pub starts-next : 0 < length (skip rest) → starts size rest at ≡ (at + blanks rest) ∷ starts size (drop next text) next
     starts-next h = rw later-rest at (starts-on rest at h)

@@ -68,10 +68,3 @@ module _ {S T : Type 0} (next : S → T → Move S) (ends : S → Bool) where
 
     pub found-some : (i : ℕ) → found next ends ts s n .stop ≡ some i → (i ≤ length ts) × (u : S) × Walk next (take i ts) s u × Stuck u (drop i ts)
     found-some i e = rw e at (stops ts s n)
-
-    pub walk-found : (u : S) → Walk next ts s u → ends u ≡ true → found next ends ts s n .stop ≡ none
-    walk-found u w e = by-stop (found next ends ts s n .stop) (stops ts s n)
-      where
-        by-stop : (o : Option ℕ) → Stops o ts s → o ≡ none
-        by-stop none x = refl
-        by-stop (some i) (l, v, x, y) = absurd (no-way (take i ts) (drop i ts) ts s v u x y (follows-self ts i) w e)

@@ -17,7 +17,7 @@ same-none false n m e = refl
 module _ (p : ℕ → Bool) where
   -- by the first byte
   module _ (b : ℕ) (s : List ℕ) where
-    pub run-more : p b ≡ true → run p (b ∷ s) ≡ suc (run p s)
+    run-more : p b ≡ true → run p (b ∷ s) ≡ suc (run p s)
     unfolding run
     run-more e = rw e
 
@@ -25,16 +25,13 @@ module _ (p : ℕ → Bool) where
     unfolding run
     run-none e = rw e
 
-    pub run-pos : p b ≡ true → 0 < run p (b ∷ s)
-    run-pos e = omega (arith, run-more e)
-
     pub run-cases : (P : ℕ → Type 0) → (p b ≡ true → P (suc (run p s))) → (p b ≡ false → P 0) → P (run p (b ∷ s))
     run-cases P f g =
         ⊎-elim (λ (e : p b ≡ false). rw (run-none e) (g e)) (λ (e : p b ≡ true). rw (run-more e) (f e)) (dichotomy (p b))
 
   pub run-pos-at : (s : List ℕ) → 0 < length s → p (getD s 0 0) ≡ true → 0 < run p s
   run-pos-at [] h e = absurd (omega arith)
-  run-pos-at (b ∷ s) h e = run-pos b s e
+  run-pos-at (b ∷ s) h e = omega (arith, run-more b s e)
 
   pub run-none-at : (s : List ℕ) → p (getD s 0 0) ≡ false → run p s ≡ 0
   unfolding run
@@ -51,19 +48,13 @@ module _ (p : ℕ → Bool) where
   run-stops [] = refl
   run-stops (b ∷ s) = run-cases b s (λ n. run p (drop n (b ∷ s)) ≡ 0) (λ e. run-stops s) (run-none b s)
 
-  pub run-taken : (s : List ℕ) → run p (take (run p s) s) ≡ length (take (run p s) s)
-  unfolding run
-  run-taken [] = refl
-  run-taken (b ∷ s) =
-      run-cases b s (λ n. run p (take n (b ∷ s)) ≡ length (take n (b ∷ s))) (λ e. run-more b (take (run p s) s) e ∙ ap suc (run-taken s)) (λ e. refl)
-
   pub run-whole : (w s : List ℕ) → run p w ≡ length w → run p s ≡ 0 → run p (w ++ s) ≡ length w
   run-whole [] s e z = z
   run-whole (b ∷ w) s e z =
       ⊎-elim (λ (f : p b ≡ false). absurd (omega (arith, run-none b w f)))
       (λ (f : p b ≡ true). run-more b (w ++ s) f ∙ ap suc (run-whole w s (omega (arith, run-more b w f)) z)) (dichotomy (p b))
 
-  pub run-front : (w r : List ℕ) → run p (w ++ r) ≡ 0 → run p w ≡ 0
+  run-front : (w r : List ℕ) → run p (w ++ r) ≡ 0 → run p w ≡ 0
   unfolding run
   run-front [] r e = refl
   run-front (b ∷ w) r e = same-none (p b) (run p (w ++ r)) (run p w) e

@@ -1,5 +1,5 @@
 -- Bytes are alike exactly when they are the same; and byte by byte along two lists. Assumes nothing.
-use mathlib.Core.Path.{_≡_, refl, sym, _∙_}
+use mathlib.Core.Path.{_≡_, refl, sym}
 use mathlib.Core.Bool.{Bool, true, false, _&&_, true≢false}
 use mathlib.Core.List.{List, [], _∷_}
 use Prim.Native.Nat.{ℕ, _+_, _≤_, _<_}
@@ -9,7 +9,7 @@ use borrow.Author.Tests.{eq-eqb, ne-eqb, eqb-true}
 use Rattle.spelling.specs.Words.{alike}
 use Rattle.spelling.proofs.Scans.{drop-next}
 
-both : (a b : Bool) → (a && b) ≡ true → (a ≡ true) × (b ≡ true)
+pub both : (a b : Bool) → (a && b) ≡ true → (a ≡ true) × (b ≡ true)
 both true b e = (refl, e)
 both false b e = absurd (true≢false (sym e))
 
@@ -24,19 +24,16 @@ alike-same (b ∷ s) (c ∷ w) e =
     let y : s ≡ w = alike-same s w (h .1) in
     cc
 
-long : (s w : List ℕ) → (length s ≡ length w → ⊥) → alike s w ≡ false
+pub alike-long : (s w : List ℕ) → (length s ≡ length w → ⊥) → alike s w ≡ false
 unfolding alike
-long [] [] n = absurd (n refl)
-long [] (c ∷ w) n = refl
-long (b ∷ s) [] n = refl
-long (b ∷ s) (c ∷ w) n = rw (long s w (λ e. n (rw e))) (no (eqb b c))
+alike-long [] [] n = absurd (n refl)
+alike-long [] (c ∷ w) n = refl
+alike-long (b ∷ s) [] n = refl
+alike-long (b ∷ s) (c ∷ w) n = rw (alike-long s w (λ e. n (rw e))) (no (eqb b c))
   where
     no : (a : Bool) → (a && false) ≡ false
     no true = refl
     no false = refl
-
-pub alike-long : (s w : List ℕ) → (length s ≡ length w → ⊥) → alike s w ≡ false
-alike-long = long
 
 module _ (s w : List ℕ) (i : ℕ) where
   pub alike-on : i < length s → i < length w → getD s i 0 ≡ getD w i 0 → alike (drop i s) (drop i w) ≡ alike (drop (i + 1) s) (drop (i + 1) w)

@@ -1,6 +1,5 @@
 -- Where a text is refused, over any notation: which tokens it has, which bytes spell which tokens, and which tokens make a whole text.
 use mathlib.Core.Path.{_≡_}
-use mathlib.Core.Bool.{Bool}
 use mathlib.Core.List.{List, [], _∷_, _++_}
 use Prim.Native.Nat.{ℕ, _≤_}
 use lib.ListN.{length, getD, take, drop}

@@ -1,5 +1,4 @@
 -- `put_row` meets its contract: three places of the room are written. Assumes nothing.
-use native.Mathlib.Omega.{arith}
 use lib.ListN.{length-set}
 use borrow.Author.Needs.{needs}
 use Rattle.notation.proofs.reading.put_row.Statement.{statement}

@@ -1,26 +1,23 @@
 -- `rest` meets its contract: the part of the text that it gives back is the part from a place on. Assumes nothing.
 use mathlib.Core.Path.{_≡_, refl, sym, _∙_}
 use mathlib.Core.List.{List, [], _∷_}
-use Prim.Native.Nat.{ℕ, _-_, _≤_}
+use Prim.Native.Nat.{ℕ, _-_}
 use native.Mathlib.Omega.{arith}
-use lib.ListN.{length, take, drop, length-drop, drop-of-length-le}
-use lib.Seq.{drop-length, take-all}
+use lib.ListN.{length, take, drop, drop-of-length-le}
+use lib.Seq.{drop-length}
 use types.Run.{OneOf, miss}
 use denote.Enum.Declared
 use borrow.Author.Needs.{needs}
 use Rattle.notation.specs.declared.reading.Reading.{Reading}
 use Rattle.notation.specs.declared.reading.Reading.the-variants.{Unfit, Over, Accepted}
 use Rattle.notation.specs.Reading.{restOf}
+use Rattle.notation.proofs.Pieces.{rest-from}
 use Rattle.notation.proofs.reading.Reading as R
 use Rattle.notation.proofs.reading.rest.Statement.{statement}
 use Rattle.notation.proofs.reading.rest.Tie as tie
 
--- the part of a list from p on
-from : (l : List ℕ) (p : ℕ) → take (length l - p) (drop p l) ≡ drop p l
-from l p = take-all (length l - p) (drop p l) (omega (arith, length-drop p l))
-
 end : (l : List ℕ) → take (length l - length l) (drop (length l) l) ≡ []
-end l = from l (length l) ∙ drop-length l
+end l = rest-from l (length l) ∙ drop-length l
 
 no-rest : (r : Reading) (l : List ℕ) → OneOf (1 ∷ 2 ∷ []) (Declared.tagOf R.the-type r) → restOf r l ≡ []
 no-rest (Unfit p) l h = absurd (miss (1 ∷ 2 ∷ []) 0 tt h)
@@ -31,7 +28,7 @@ returns : tie.Need-returns
 returns c = let a = c .before .before .args in end (a .text .now) ∙ sym (no-rest (a .reading) (a .text .now) (c .before .match .keys2))
 
 returns-2 : tie.Need-returns-2
-returns-2 c = rw (c .before .before .before .reading .given .1) (from (c .before .before .before .before .before .args .text .now) _)
+returns-2 c = rw (c .before .before .before .reading .given .1) (rest-from (c .before .before .before .before .before .args .text .now) _)
 
 returns-3 : tie.Need-returns-3
 returns-3 c =

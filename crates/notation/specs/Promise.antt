@@ -1,0 +1,54 @@
+-- What a reading promises: by equation with the reader's definition, and by the grammar alone.
+use mathlib.Core.Path.{_≡_}
+use mathlib.Core.Logic.{_⊎_}
+use mathlib.Core.List.{List}
+use Prim.Native.Nat.{ℕ, _*_, _≤_, _<_}
+use lib.ListN.{length}
+use Rattle.tables.specs.Limits.{mostRows, mostThreads}
+use Rattle.spelling.specs.Machine.{flat}
+use Rattle.spelling.specs.Refusal as R
+use Rattle.spelling.specs.Over.{over}
+use Rattle.notation.specs.declared.reading.Reading.{Reading}
+use Rattle.notation.specs.declared.reading.Reading.the-variants.{Unfit, Over, Accepted}
+use Rattle.notation.specs.Grammar.{Program, Denotes, Spells, Whole, joined, threads, programRows, programLengths}
+use Rattle.notation.specs.Tokens.{tokens, starts}
+use Rattle.notation.specs.Reading.{mostBytes, rowNumbers, threadLengths, answered, reading, written}
+
+-- a program within the limits of a reading
+pub record Within (text : List ℕ) (c l : ℕ) (x : Program) : Type 0 where
+  pub bytes : length text ≤ mostBytes
+  pub few-rows : length (joined (threads x)) ≤ mostRows
+  pub few-threads : length (threads x) ≤ mostThreads
+  pub room : length (joined (threads x)) * 3 ≤ c
+  pub places : length (threads x) ≤ l
+
+-- the reading is that program's two tables, and how many commands and threads they have
+pub record Holds (commands lengths commands′ lengths′ : List ℕ) (r : Reading) (x : Program) : Type 0 where
+  pub many : r ≡ Accepted (length (joined (threads x))) (length (threads x))
+  pub rows : commands′ ≡ over (flat (programRows x)) commands
+  pub lens : lengths′ ≡ over (programLengths x) lengths
+
+abbrev pub RefusedAt : List ℕ → ℕ → Type 0
+RefusedAt text p = R.Refused Spells Whole text (tokens text) (starts text) p
+
+-- The promise by the grammar alone.
+pub record ByGrammar (text commands lengths commands′ lengths′ : List ℕ) (r : Reading) : Type 0 where
+  -- a text that denotes a program within the limits is read as that program
+  pub accepts : (x : Program) → Denotes text x → Within text (length commands) (length lengths) x → Holds commands lengths commands′ lengths′ r x
+  -- what is accepted denotes one
+  pub accepted : (m t : ℕ) → r ≡ Accepted m t → (x : Program) × Denotes text x × Within text (length commands) (length lengths) x
+  -- no text denotes two
+  pub one : (x y : Program) → Denotes text x → Denotes text y → x ≡ y
+  -- 12 exactly at the place where a text that is not too long is refused
+  pub refuses : (p : ℕ) → r ≡ Unfit p → (length text ≤ mostBytes) × RefusedAt text p
+  pub refused : (p : ℕ) → length text ≤ mostBytes → RefusedAt text p → r ≡ Unfit p
+  -- 13 for a text that is too long, or denotes a program that is not within the limits
+  pub too-much : r ≡ Over
+      → (mostBytes < length text) ⊎ ((x : Program) × Denotes text x × ¬ Within text (length commands) (length lengths) x)
+
+-- The promise by equation, and by the grammar.
+pub record Read (text commands lengths commands′ lengths′ : List ℕ) (r : Reading) : Type 0 where
+  pub answers : answered r ≡ reading text (length commands) (length lengths)
+  pub rows-hold : commands′ ≡ written r (rowNumbers text) commands
+  pub lengths-hold : lengths′ ≡ written r (threadLengths text) lengths
+  pub by-grammar : ByGrammar text commands lengths commands′ lengths′ r
