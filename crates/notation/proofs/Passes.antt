@@ -42,8 +42,8 @@ judging-start text =
     let q : 0 + length (readOf text .lengths) ≡ length (readOf text .lengths) = omega arith in
     record { inside = omega arith; few = (omega arith, omega arith); n = 0; same = rw (p, q) }
 
-module _ (text : List ℕ) (at : ℕ) (s : State) (m t : ℕ) (J : Judging text at s m t) where
-  module _ (from : ℕ) (e : tokenAt text at ≡ M.End from) where
+module _ {text : List ℕ} {at : ℕ} {s : State} {m t : ℕ} (J : Judging text at s m t) where
+  module _ {from : ℕ} (e : tokenAt text at ≡ M.End from) where
     ends : judgement [] (length text) m t (outcome [] [] (cond (ended s) none (some 0))) ≡ judgedOf text
     ends =
         let E = met-end text at (J .inside) from e in
@@ -58,7 +58,7 @@ module _ (text : List ℕ) (at : ℕ) (s : State) (m t : ℕ) (J : Judging text 
     pub judging-short : ended s ≡ false → Refused from ≡ judgedOf text
     judging-short q = ap Refused (met-end text at (J .inside) from e .place) ∙ rw q at ends
 
-  module _ (tok : Token) (from nxt : ℕ) (e : tokenAt text at ≡ M.Token tok from nxt) where
+  module _ {tok : Token} {from nxt : ℕ} (e : tokenAt text at ≡ M.Token tok from nxt) where
     goes : (v : Moved) → stepped s tok ≡ v
         → judgement (from ∷ startsFrom text nxt) (length text) m t (moved (move v) (J .n) (foundFrom text nxt)) ≡ judgedOf text
     goes v q =
@@ -71,8 +71,8 @@ module _ (text : List ℕ) (at : ℕ) (s : State) (m t : ℕ) (J : Judging text 
     pub judging-refused : stepped s tok ≡ Do.Refuse → Refused from ≡ judgedOf text
     judging-refused q = goes Do.Refuse q
 
-    pub judging-on : (u : State) → stepped s tok ≡ Do.On u → Judging text nxt u m t
-    judging-on u q =
+    pub judging-on : {u : State} → stepped s tok ≡ Do.On u → Judging text nxt u m t
+    judging-on {u} q =
         let h = judging-further in
         record {
           inside = h .1;
@@ -81,8 +81,8 @@ module _ (text : List ℕ) (at : ℕ) (s : State) (m t : ℕ) (J : Judging text 
           same = sym (judged-further from (startsFrom text nxt) (length text) _ _ (foundFrom text nxt u (J .n) .stop)) ∙ goes (Do.On u) q;
         }
 
-    pub judging-row : (k a c : ℕ) → stepped s tok ≡ Do.Row k a c → Judging text nxt Close (m + 1) t
-    judging-row k a c q =
+    pub judging-row : {k a c : ℕ} → stepped s tok ≡ Do.Row k a c → Judging text nxt Close (m + 1) t
+    judging-row {k} {a} {c} q =
         let h = judging-further in
         let o = foundFrom text nxt Close (suc (J .n)) in
         let z : m + 1 + length (o .rows) ≡ m + suc (length (o .rows)) = omega arith in
@@ -126,18 +126,18 @@ writing-start {text} R =
       few = (omega arith, omega (arith, R .few-rows, flat-long (readOf text .rows)), R .few-threads);
     }
 
-module _ (text was was′ now now′ : List ℕ) (at : ℕ) (s : State) (i j n : ℕ) (W : Writing text was was′ now now′ at s i j n) where
+module _ {text was was′ now now′ : List ℕ} {at : ℕ} {s : State} {i j n : ℕ} (W : Writing text was was′ now now′ at s i j n) where
   -- where nothing more is found, both tables are written
   done : foundFrom text at s n .rows ≡ [] → foundFrom text at s n .lengths ≡ [] → (now ≡ over (rowNumbers text) was) × (now′ ≡ over (threadLengths text) was′)
   unfolding flat
   done p q = (filling-done (W .rows) (ap flat p), filling-done (W .lens) q)
 
-  pub writing-end : (from : ℕ) → tokenAt text at ≡ M.End from → (now ≡ over (rowNumbers text) was) × (now′ ≡ over (threadLengths text) was′)
-  writing-end from e =
+  pub writing-end : {from : ℕ} → tokenAt text at ≡ M.End from → (now ≡ over (rowNumbers text) was) × (now′ ≡ over (threadLengths text) was′)
+  writing-end {from} e =
       let q = found-end text at (W .inside) (met-end text at (W .inside) from e) s n in
       done (ap (λ (o : Outcome). o .rows) q) (ap (λ (o : Outcome). o .lengths) q)
 
-  module _ (tok : Token) (from nxt : ℕ) (e : tokenAt text at ≡ M.Token tok from nxt) where
+  module _ {tok : Token} {from nxt : ℕ} (e : tokenAt text at ≡ M.Token tok from nxt) where
     goes-to : (v : Moved) → stepped s tok ≡ v → foundFrom text at s n ≡ moved (move v) n (foundFrom text nxt)
     goes-to v q = found-token text at (W .inside) (met-token text at (W .inside) tok from nxt e) s n v q
 
@@ -147,8 +147,8 @@ module _ (text was was′ now now′ : List ℕ) (at : ℕ) (s : State) (i j n :
     pub writing-refused : stepped s tok ≡ Do.Refuse → (now ≡ over (rowNumbers text) was) × (now′ ≡ over (threadLengths text) was′)
     writing-refused q = let g = goes-to Do.Refuse q in done (ap (λ (o : Outcome). o .rows) g) (ap (λ (o : Outcome). o .lengths) g)
 
-    pub writing-on : (u : State) → stepped s tok ≡ Do.On u → Writing text was was′ now now′ nxt u i j n
-    writing-on u q =
+    pub writing-on : {u : State} → stepped s tok ≡ Do.On u → Writing text was was′ now now′ nxt u i j n
+    writing-on {u} q =
         let g = goes-to (Do.On u) q in
         record {
           inside = writing-further .1;
@@ -157,7 +157,7 @@ module _ (text was was′ now now′ : List ℕ) (at : ℕ) (s : State) (i j n :
           few = W .few;
         }
 
-    module _ (k a c : ℕ) (q : stepped s tok ≡ Do.Row k a c) where
+    module _ {k a c : ℕ} (q : stepped s tok ≡ Do.Row k a c) where
       abbrev after : List ℕ
       after = flat (foundFrom text nxt Close (suc n) .rows)
 
