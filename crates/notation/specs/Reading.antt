@@ -2,7 +2,7 @@
 use mathlib.Core.Bool.{Bool, cond, _||_}
 use mathlib.Core.List.{List, []}
 use mathlib.Core.Option.{Option, none, some}
-use Prim.Native.Nat.{ℕ, _/_, _≤_}
+use Prim.Native.Nat.{ℕ, _+_, _/_, _≤_, min}
 use lib.Dec.{ltb}
 use lib.ListN.{length, getD, drop}
 use Rattle.tables.specs.Limits.{mostRows, mostThreads}
@@ -74,11 +74,18 @@ written (Unfit p) new old = old
 written Over new old = old
 written (Accepted m t) new old = over new old
 
--- the rest of the text from the offending token on; in every answer but 12 the empty end
+-- the rest of a text begins at the offending token, and in every answer but 12 at the text's end
+abbrev pub restAt : Reading → ℕ → ℕ
+restAt (Unfit p) n = min p n
+restAt Over n = n
+restAt (Accepted m t) n = n
+
 abbrev pub restOf : Reading → List ℕ → List ℕ
-restOf (Unfit p) text = drop p text
-restOf Over text = []
-restOf (Accepted m t) text = []
+restOf r text = drop (restAt r (length text)) text
+
+-- n bytes on from a place in memory, which is a block and an offset in it
+abbrev pub ahead : ℕ × ℕ → ℕ → ℕ × ℕ
+ahead x n = (x .0, n + x .1)
 
 -- what the writing pass asks: few rows and threads, and rooms that hold them
 pub record Rooms (text commands lengths : List ℕ) : Type 0 where

@@ -2,7 +2,7 @@
 ghost use mathlib.Core.Path.{_≡_};
 ghost use Prim.Native.Nat.{_+_, _≤_};
 ghost use lib.ListN.{length, set};
-ghost use Rattle.notation.specs.Reading.{answered, judgedOf, rowNumbers, threadLengths, tooMany, Rooms, restOf};
+ghost use Rattle.notation.specs.Reading.{answered, judgedOf, rowNumbers, threadLengths, tooMany, Rooms, restAt, restOf, ahead};
 ghost use Rattle.notation.specs.Promise.{Read};
 ghost use Rattle.spelling.specs.Over.{over};
 use crate::automaton::Moved;
@@ -172,7 +172,7 @@ pub fn read(text: &[u8], commands: &mut [u32], lengths: &mut [u32]) -> Reading
 
 // The rest of a text that was read: from the offending token on, else its empty end.
 pub fn rest(text: &[u8], reading: Reading) -> &[u8]
-    ensures { λ s. ⌜ now s ≡ restOf reading (now (text .entry)) ⌝ }
+    ensures { λ s. ⌜ (now s ≡ restOf reading (now (text .entry))) × (s .ptr ≡ ahead (text .entry .ptr) (restAt reading (length (now (text .entry))))) ⌝ }
 {
     let end = text.len();
     let Reading::Unfit(place) = reading else {
