@@ -18,8 +18,8 @@ use Rattle.notation.specs.declared.automaton.State.{State}
 use Rattle.notation.specs.declared.automaton.State.the-variants.{Command, Close, Part}
 use Rattle.notation.specs.declared.automaton.Moved.{Moved}
 use Rattle.notation.specs.declared.automaton.Moved.the-variants as Do
-use Rattle.notation.specs.declared.reading.Judged.{Judged}
-use Rattle.notation.specs.declared.reading.Judged.the-variants.{Refused, Passed}
+use Rattle.notation.specs.declared.scan.Judged.{Judged}
+use Rattle.notation.specs.declared.scan.Judged.the-variants.{Refused, Passed}
 use Rattle.notation.specs.Tokens.{tokenAt}
 use Rattle.notation.specs.Automaton.{stepped, ended, move}
 use Rattle.notation.specs.Reading.{readOf, rowNumbers, threadLengths, judgedBy, judgedOf, Rooms}

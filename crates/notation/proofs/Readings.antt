@@ -16,8 +16,8 @@ use Rattle.spelling.proofs.Spelt.{spelt-tokens}
 use Rattle.spelling.proofs.Refusals as R
 use Rattle.notation.specs.declared.tokens.Token.{Token}
 use Rattle.notation.specs.declared.automaton.State.the-variants.{Command}
-use Rattle.notation.specs.declared.reading.Judged.{Judged}
-use Rattle.notation.specs.declared.reading.Judged.the-variants.{Refused, Passed}
+use Rattle.notation.specs.declared.scan.Judged.{Judged}
+use Rattle.notation.specs.declared.scan.Judged.the-variants.{Refused, Passed}
 use Rattle.notation.specs.declared.reading.Reading.{Reading}
 use Rattle.notation.specs.declared.reading.Reading.the-variants.{Unfit, Over, Accepted}
 use Rattle.notation.specs.Grammar as G

@@ -1,6 +1,6 @@
 -- What a reading answers, and what the lent tables then hold.
 use mathlib.Core.Bool.{Bool, cond, _||_}
-use mathlib.Core.List.{List, []}
+use mathlib.Core.List.{List}
 use mathlib.Core.Option.{Option, none, some}
 use Prim.Native.Nat.{ℕ, _+_, _/_, _≤_, min}
 use lib.Dec.{ltb}
@@ -11,8 +11,8 @@ use Rattle.tables.specs.declared.verdict.Told.{Told}
 use Rattle.spelling.specs.Machine.{Outcome, found, flat}
 use Rattle.spelling.specs.Over.{over}
 use Rattle.notation.specs.declared.automaton.State.the-variants.{Command}
-use Rattle.notation.specs.declared.reading.Judged.{Judged}
-use Rattle.notation.specs.declared.reading.Judged.the-variants.{Refused, Passed}
+use Rattle.notation.specs.declared.scan.Judged.{Judged}
+use Rattle.notation.specs.declared.scan.Judged.the-variants.{Refused, Passed}
 use Rattle.notation.specs.declared.reading.Reading.{Reading}
 use Rattle.notation.specs.declared.reading.Reading.the-variants.{Unfit, Over, Accepted}
 use Rattle.notation.specs.Tokens.{tokens, starts}

@@ -1,16 +1,11 @@
-// A text read into the two tables: a pass that judges it and writes nothing, and, where it passes, a pass that writes.
+// A text read into the two tables: refusals 12 and 13, the tables written, and the rest of a refused text.
 ghost use mathlib.Core.Path.{_≡_};
-ghost use Prim.Native.Nat.{_+_, _≤_};
-ghost use lib.ListN.{length, set};
-ghost use Rattle.notation.specs.Reading.{answered, judgedOf, rowNumbers, threadLengths, tooMany, Rooms, restAt, restOf, ahead};
+ghost use lib.ListN.{length};
+ghost use Rattle.notation.specs.Reading.{answered, tooMany, restAt, restOf, ahead};
 ghost use Rattle.notation.specs.Promise.{Read};
-ghost use Rattle.spelling.specs.Over.{over};
-use crate::automaton::Moved;
-use crate::automaton::State;
-use crate::automaton::ends;
-use crate::automaton::step;
-use crate::tokens::Met;
-use crate::tokens::token_at;
+use crate::scan::Judged;
+use crate::scan::judge;
+use crate::scan::write;
 use tables::Table;
 use tables::Told;
 
@@ -50,97 +45,6 @@ impl Reading {
                 also: 0,
             },
         }
-    }
-}
-
-// Refused at a place, or of the notation, with so many commands and threads.
-enum Judged {
-    Refused(usize),
-    Passed(usize, usize),
-}
-
-fn judge(text: &[u8]) -> Judged
-    ensures { λ r. ⌜ r ≡ judgedOf (now (text .entry)) ⌝ }
-{
-    let mut at = 0;
-    let mut state = State::Command;
-    let mut commands = 0;
-    let mut threads = 0;
-    loop {
-        match token_at(text, at) {
-            Met::End(end) => {
-                if ends(state) {
-                    return Judged::Passed(commands, threads);
-                }
-                return Judged::Refused(end);
-            }
-            Met::Token(token, from, next) => {
-                match step(state, token) {
-                    Moved::Refuse => {
-                        return Judged::Refused(from);
-                    }
-                    Moved::On(expected) => {
-                        state = expected;
-                    }
-                    Moved::Row(_, _, _) => {
-                        commands += 1;
-                        state = State::Close;
-                    }
-                    Moved::Thread => {
-                        threads += 1;
-                        state = State::Part;
-                    }
-                }
-                at = next;
-            }
-        }
-    }
-}
-
-fn put_row(commands: &mut [u32], at: usize, kind: u32, name: u32, count: u32)
-    requires { ⌜ at + 3 ≤ length (now commands) ⌝ }
-    ensures { λ _. ⌜ now (commands .exit) ≡ set (set (set (now (commands .entry)) at kind) (at + 1) name) (at + 2) count ⌝ }
-{
-    commands[at] = kind;
-    commands[at + 1] = name;
-    commands[at + 2] = count;
-}
-
-// The tables of a text that passed, into rooms that hold them.
-fn write(text: &[u8], commands: &mut [u32], lengths: &mut [u32])
-    requires { ⌜ Rooms (now text) (now commands) (now lengths) ⌝ }
-    ensures { λ _. ⌜ (now (commands .exit) ≡ over (rowNumbers (now (text .entry))) (now (commands .entry))) × (now (lengths .exit) ≡ over (threadLengths (now (text .entry))) (now (lengths .entry))) ⌝ }
-{
-    let mut at = 0;
-    let mut state = State::Command;
-    let mut numbers = 0;
-    let mut threads = 0;
-    let mut length = 0;
-    loop {
-        let Met::Token(token, _, next) = token_at(text, at) else {
-            return;
-        };
-        match step(state, token) {
-            Moved::Refuse => {
-                return;
-            }
-            Moved::On(expected) => {
-                state = expected;
-            }
-            Moved::Row(kind, name, count) => {
-                put_row(commands, numbers, kind, name, count);
-                numbers += 3;
-                length += 1;
-                state = State::Close;
-            }
-            Moved::Thread => {
-                lengths[threads] = length;
-                threads += 1;
-                length = 0;
-                state = State::Part;
-            }
-        }
-        at = next;
     }
 }
 

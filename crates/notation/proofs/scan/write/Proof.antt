@@ -7,8 +7,8 @@ use borrow.Author.Needs.{needs}
 use Rattle.tables.specs.Limits.{mostRows, mostThreads}
 use Rattle.spelling.proofs.Filling.{filling-long}
 use Rattle.notation.proofs.Passes.{Writing, writing-start, writing-end, writing-further, writing-refused, writing-on, writing-room, writing-row, writing-place, writing-thread}
-use Rattle.notation.proofs.reading.write.Statement.{statement}
-use Rattle.notation.proofs.reading.write.Tie as tie
+use Rattle.notation.proofs.scan.write.Statement.{statement}
+use Rattle.notation.proofs.scan.write.Tie as tie
 
 abbrev Inv-loop : tie.InvT-loop
 Inv-loop text commands₀ lengths₀ at₀ state₀ numbers₀ threads₀ length₀ commands lengths at state numbers threads length =

@@ -1,8 +1,8 @@
 -- `put_row` meets its contract: three places of the room are written. Assumes nothing.
 use lib.ListN.{length-set}
 use borrow.Author.Needs.{needs}
-use Rattle.notation.proofs.reading.put_row.Statement.{statement}
-use Rattle.notation.proofs.reading.put_row.Tie as tie
+use Rattle.notation.proofs.scan.put_row.Statement.{statement}
+use Rattle.notation.proofs.scan.put_row.Tie as tie
 
 slice-write-commands-2 : tie.Need-slice-write-commands-2
 slice-write-commands-2 c = simp length-set (search needs)

@@ -5,8 +5,8 @@ use native.Mathlib.Omega.{arith}
 use lib.ListN.{length}
 use borrow.Author.Needs.{needs}
 use Rattle.notation.proofs.Passes.{Judging, judging-start, judging-passed, judging-short, judging-further, judging-refused, judging-on, judging-row, judging-thread}
-use Rattle.notation.proofs.reading.judge.Statement.{statement}
-use Rattle.notation.proofs.reading.judge.Tie as tie
+use Rattle.notation.proofs.scan.judge.Statement.{statement}
+use Rattle.notation.proofs.scan.judge.Tie as tie
 
 abbrev Inv-loop : tie.InvT-loop
 Inv-loop text at₀ state₀ commands₀ threads₀ at state commands threads = Judging text at state commands threads
