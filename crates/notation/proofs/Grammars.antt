@@ -12,7 +12,7 @@ use Rattle.spelling.proofs.Machines.{found-none}
 use Rattle.notation.specs.declared.tokens.Token.{Token}
 use Rattle.notation.specs.declared.tokens.Token.the-variants.{Access, Signal, Return, Number, Semi, Bars}
 use Rattle.notation.specs.declared.automaton.State.{State}
-use Rattle.notation.specs.declared.automaton.State.the-variants.{Command, Address, Barrier, Count, Close, Part}
+use Rattle.notation.specs.declared.automaton.State.the-variants.{Word, Address, Barrier, Count, Close, Part}
 use Rattle.notation.specs.Tokens.{sizeOf, tokenOf}
 use Rattle.notation.specs.Spelling.{Spelling, extends, returnWord}
 use Rattle.notation.specs.Grammar as G
@@ -28,7 +28,7 @@ rest cs us = threadTokens cs ++ behind us
 
 -- what completes a program from a state on
 abbrev Left : State → List Token → Type 0
-Left Command ts = (cs : List G.Command) × (us : List (List G.Command)) × (ts ≡ rest cs us)
+Left Word ts = (cs : List G.Command) × (us : List (List G.Command)) × (ts ≡ rest cs us)
 Left (Address k) ts = (g : ℕ) × (cs : List G.Command) × (us : List (List G.Command)) × (ts ≡ Number g ∷ Semi ∷ rest cs us)
 Left (Barrier k) ts = (b : ℕ) × (n : ℕ) × (cs : List G.Command) × (us : List (List G.Command)) × (ts ≡ Number b ∷ Number n ∷ Semi ∷ rest cs us)
 Left (Count k b) ts = (n : ℕ) × (cs : List G.Command) × (us : List (List G.Command)) × (ts ≡ Number n ∷ Semi ∷ rest cs us)
@@ -53,13 +53,13 @@ module _ (u : State) (ts : List Token) (h : Left u ts) where
       (λ k g e. let (cs, us, q) = on Close e in (g, cs, us, before (Number g) q))
       (λ k b e. let (n, cs, us, q) = on (Count k b) e in (b, n, cs, us, before (Number b) q))
       (λ k b n e. let (cs, us, q) = on Close e in (n, cs, us, before (Number n) q))
-      (λ e. let (cs, us, q) = on Command e in (cs, us, before Semi q))
-      (λ e. let (cs, us, q) = on Command e in (cs ∷ us, before Bars q))
+      (λ e. let (cs, us, q) = on Word e in (cs, us, before Semi q))
+      (λ e. let (cs, us, q) = on Word e in (cs ∷ us, before Bars q))
 
 -- a text may end after a thread only
 left-end : (s : State) → ended s ≡ true → Left s []
 unfolding behind
-left-end Command e = absurd (true≢false (sym e))
+left-end Word e = absurd (true≢false (sym e))
 left-end (Address k) e = absurd (true≢false (sym e))
 left-end (Barrier k) e = absurd (true≢false (sym e))
 left-end (Count k b) e = absurd (true≢false (sym e))
@@ -70,11 +70,11 @@ left : (ts : List Token) (s u : State) → Walk next ts s u → ended u ≡ true
 left [] s u w e = left-end s (ap ended w ∙ e)
 left (t ∷ ts) s u (v, g, w) e = back v ts (left ts v u w e) s t g
 
-sound : (ts : List Token) (u : State) → Walk next ts Command u → ended u ≡ true → Whole ts
-sound ts u w e = let (cs, us, q) = left ts Command u w e in (record { first = cs; others = us }, q)
+sound : (ts : List Token) (u : State) → Walk next ts Word u → ended u ≡ true → Whole ts
+sound ts u w e = let (cs, us, q) = left ts Word u w e in (record { first = cs; others = us }, q)
 
-complete : (ts : List Token) → Whole ts → (u : State) × Walk next ts Command u × (ended u ≡ true)
-complete ts (x, e) = rw e (found-none next ended (programTokens x) Command 0 (rw (program-found x)))
+complete : (ts : List Token) → Whole ts → (u : State) × Walk next ts Word u × (ended u ≡ true)
+complete ts (x, e) = rw e (found-none next ended (programTokens x) Word 0 (rw (program-found x)))
 
 -- bytes that end a text
 return-spelt : Spells returnWord (Return ∷ [])
@@ -103,15 +103,15 @@ two-spelt = token (48 ∷ 32 ∷ 48 ∷ 59 ∷ returnWord) (48 ∷ []) (32 ∷ 4
 
 live : (s : State) → (w : List ℕ) × (ts : List Token) × (u : State) × Spells w ts × Walk next ts s u × (ended u ≡ true)
 unfolding stepped
-live Command = (returnWord, Return ∷ [], Part, return-spelt, (Part, refl, refl), refl)
+live Word = (returnWord, Return ∷ [], Part, return-spelt, (Part, refl, refl), refl)
 live (Address k) =
-    (48 ∷ 59 ∷ returnWord, Number 0 ∷ Semi ∷ Return ∷ [], Part, number-spelt, (Close, refl, (Command, refl, (Part, refl, refl))), refl)
+    (48 ∷ 59 ∷ returnWord, Number 0 ∷ Semi ∷ Return ∷ [], Part, number-spelt, (Close, refl, (Word, refl, (Part, refl, refl))), refl)
 live (Barrier k) =
-    (48 ∷ 32 ∷ 48 ∷ 59 ∷ returnWord, Number 0 ∷ Number 0 ∷ Semi ∷ Return ∷ [], Part, two-spelt, (Count k 0, refl, (Close, refl, (Command, refl, (Part, refl, refl)))), refl)
+    (48 ∷ 32 ∷ 48 ∷ 59 ∷ returnWord, Number 0 ∷ Number 0 ∷ Semi ∷ Return ∷ [], Part, two-spelt, (Count k 0, refl, (Close, refl, (Word, refl, (Part, refl, refl)))), refl)
 live (Count k b) =
-    (48 ∷ 59 ∷ returnWord, Number 0 ∷ Semi ∷ Return ∷ [], Part, number-spelt, (Close, refl, (Command, refl, (Part, refl, refl))), refl)
-live Close = (59 ∷ returnWord, Semi ∷ Return ∷ [], Part, close-spelt, (Command, refl, (Part, refl, refl)), refl)
-live Part = (124 ∷ 124 ∷ returnWord, Bars ∷ Return ∷ [], Part, part-spelt, (Command, refl, (Part, refl, refl)), refl)
+    (48 ∷ 59 ∷ returnWord, Number 0 ∷ Semi ∷ Return ∷ [], Part, number-spelt, (Close, refl, (Word, refl, (Part, refl, refl))), refl)
+live Close = (59 ∷ returnWord, Semi ∷ Return ∷ [], Part, close-spelt, (Word, refl, (Part, refl, refl)), refl)
+live Part = (124 ∷ 124 ∷ returnWord, Bars ∷ Return ∷ [], Part, part-spelt, (Word, refl, (Part, refl, refl)), refl)
 
 -- what goes on is a token of the notation
 fits : (s : State) (t : Token) (u : State) → Goes next s t u → Fits t
@@ -133,5 +133,5 @@ lexer =
       blank-ends = blank-ends;
     }
 
-pub grammar : Grammar next ended Command Fits Spells Whole
+pub grammar : Grammar next ended Word Fits Spells Whole
 grammar = record { fits = fits; sound = sound; complete = complete; live = live }

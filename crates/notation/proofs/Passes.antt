@@ -15,7 +15,7 @@ use Rattle.spelling.proofs.Filling.{Filling, filling-none, filling-left, fillin
 use Rattle.notation.specs.declared.tokens.Token.{Token}
 use Rattle.notation.specs.declared.tokens.Met.the-variants as M
 use Rattle.notation.specs.declared.automaton.State.{State}
-use Rattle.notation.specs.declared.automaton.State.the-variants.{Command, Close, Part}
+use Rattle.notation.specs.declared.automaton.State.the-variants.{Word, Close, Part}
 use Rattle.notation.specs.declared.automaton.Moved.{Moved}
 use Rattle.notation.specs.declared.automaton.Moved.the-variants as Do
 use Rattle.notation.specs.declared.scan.Judged.{Judged}
@@ -35,7 +35,7 @@ pub record Judging (text : List ℕ) (at : ℕ) (s : State) (m t : ℕ) : Type 0
   pub n : ℕ
   pub same : judgement (startsFrom text at) (length text) m t (foundFrom text at s n) ≡ judgedOf text
 
-pub judging-start : (text : List ℕ) → Judging text 0 Command 0 0
+pub judging-start : (text : List ℕ) → Judging text 0 Word 0 0
 unfolding judgedOf
 judging-start text =
     let p : 0 + length (readOf text .rows) ≡ length (readOf text .rows) = omega arith in
@@ -117,7 +117,7 @@ unfolding flat
 flat-long [] = refl
 flat-long (r ∷ rs) = omega (arith, flat-long rs)
 
-pub writing-start : {text was was′ : List ℕ} → Rooms text was was′ → Writing text was was′ was was′ 0 Command 0 0 0
+pub writing-start : {text was was′ : List ℕ} → Rooms text was was′ → Writing text was was′ was was′ 0 Word 0 0 0
 writing-start {text} R =
     record {
       inside = omega arith;

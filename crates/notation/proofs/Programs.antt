@@ -8,14 +8,14 @@ use native.Mathlib.Omega.{arith}
 use lib.ListN.{length}
 use Rattle.spelling.specs.Machine.{Row, outcome, found}
 use Rattle.notation.specs.declared.tokens.Token.{Token}
-use Rattle.notation.specs.declared.automaton.State.the-variants.{Command, Part}
+use Rattle.notation.specs.declared.automaton.State.the-variants.{Word, Part}
 use Rattle.notation.specs.Grammar as G
 use Rattle.notation.specs.Grammar.{access, signal, threadTokens, behind, Program, programTokens, rowOf, joined, programRows, programLengths}
 use Rattle.notation.specs.Automaton.{stepped, ended, next}
 
 -- a thread's tokens, where what follows them is found to be rows and lengths
 thread-found : (cs : List G.Command) (ts : List Token) (n : ℕ) (rs : List Row) (ls : List ℕ) → found next ended ts Part 0 ≡ outcome rs ls none
-    → found next ended (threadTokens cs ++ ts) Command n ≡ outcome (map rowOf cs ++ rs) ((n + length cs) ∷ ls) none
+    → found next ended (threadTokens cs ++ ts) Word n ≡ outcome (map rowOf cs ++ rs) ((n + length cs) ∷ ls) none
 unfolding found stepped threadTokens
 thread-found [] ts n rs ls e = let z : n + 0 ≡ n = omega arith in rw (e, z)
 thread-found (access k g ∷ cs) ts n rs ls e =
@@ -36,7 +36,7 @@ behind-found (u ∷ us) =
     let z : 0 + length u ≡ length u = omega arith in
     rw (thread-found u (behind us) 0 (map rowOf (joined us)) (map (λ (t : List G.Command). length t) us) (behind-found us), map-append u (joined us), z)
 
-pub program-found : (x : Program) → found next ended (programTokens x) Command 0 ≡ outcome (programRows x) (programLengths x) none
+pub program-found : (x : Program) → found next ended (programTokens x) Word 0 ≡ outcome (programRows x) (programLengths x) none
 unfolding joined
 program-found x =
     let z : 0 + length (x .first) ≡ length (x .first) = omega arith in

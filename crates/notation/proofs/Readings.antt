@@ -4,7 +4,7 @@ use mathlib.Core.Logic.{_⊎_, inl, inr}
 use mathlib.Core.Bool.{Bool, true, false, cond, _||_, true≢false}
 use mathlib.Core.List.{List}
 use mathlib.Core.Option.{Option, none, some}
-use Prim.Native.Nat.{ℕ, _*_, _/_, _≤_, _<_}
+use Prim.Native.Nat.{ℕ, _+_, _*_, _/_, _≤_, _<_}
 use native.Mathlib.Omega.{arith}
 use lib.Dec.{ltb}
 use lib.ListN.{length, length-map}
@@ -12,10 +12,11 @@ use borrow.Author.Tests.{lt-ltb, le-ltb, ltb-true, ltb-false}
 use Rattle.tables.specs.Limits.{mostRows, mostThreads}
 use Rattle.spelling.specs.Machine.{Outcome, outcome, found, flat}
 use Rattle.spelling.specs.Over.{over}
+use Rattle.spelling.proofs.Cuts.{start-inside}
 use Rattle.spelling.proofs.Spelt.{spelt-tokens}
 use Rattle.spelling.proofs.Refusals as R
 use Rattle.notation.specs.declared.tokens.Token.{Token}
-use Rattle.notation.specs.declared.automaton.State.the-variants.{Command}
+use Rattle.notation.specs.declared.automaton.State.the-variants.{Word}
 use Rattle.notation.specs.declared.scan.Judged.{Judged}
 use Rattle.notation.specs.declared.scan.Judged.the-variants.{Refused, Passed}
 use Rattle.notation.specs.declared.reading.Reading.{Reading}
@@ -24,15 +25,16 @@ use Rattle.notation.specs.Grammar as G
 use Rattle.notation.specs.Grammar.{Program, Denotes, Spells, rowOf, joined, threads, programRows, programLengths}
 use Rattle.notation.specs.Automaton.{next, ended}
 use Rattle.notation.specs.Reading.{mostBytes, readOf, rowNumbers, threadLengths, judgedBy, judgedOf, answer, answered, tooMany, answerOf, reading, written, Rooms}
-use Rattle.notation.specs.Tokens.{tokens, starts}
+use Rattle.notation.specs.Tokens.{tokens, starts, sizeOf}
 use Rattle.notation.specs.Promise.{Within, Holds, RefusedAt, ByGrammar, Read}
+use Rattle.notation.proofs.Lexes.{pos, most}
 use Rattle.notation.proofs.Programs.{program-found, program-one}
 use Rattle.notation.proofs.Grammars.{lexer, grammar}
 use Rattle.notation.proofs.Passes.{flat-long}
 
 -- a text that denotes a program: what is found in it are the program's tables
 denoted-found : (text : List ℕ) (x : Program) → Denotes text x → readOf text ≡ outcome (programRows x) (programLengths x) none
-denoted-found text x d = ap (λ (ts : List Token). found next ended ts Command 0) (spelt-tokens lexer d) ∙ program-found x
+denoted-found text x d = ap (λ (ts : List Token). found next ended ts Word 0) (spelt-tokens lexer d) ∙ program-found x
 
 many-rows : (x : Program) → length (programRows x) ≡ length (joined (threads x))
 many-rows x = length-map (joined (threads x)) rowOf
@@ -138,27 +140,39 @@ module _ (text : List ℕ) (c l : ℕ) where
     within-few : Within text c l x → FewOf
     within-few w = (w .few-rows, w .few-threads, w .room, w .places)
 
+-- a place where a text is refused stands in it, or at its end
+refused-inside : (text : List ℕ) (p : ℕ) → RefusedAt text p → p ≤ length text
+refused-inside text p k =
+    let z : 0 + length text ≡ length text = omega arith in
+    rw (k .place) (rw z at (start-inside sizeOf pos most (k .before) text 0))
+
 -- what each answer means
-abbrev Means : List ℕ → ℕ → ℕ → Reading → Type 0
-Means text c l (Unfit p) = (length text ≤ mostBytes) × RefusedAt text p
-Means text c l Over = (mostBytes < length text) ⊎ ((x : Program) × Denotes text x × ¬ Within text c l x)
-Means text c l (Accepted m t) = (x : Program) × Denotes text x × Within text c l x
+abbrev Stands : List ℕ → ℕ → ℕ → Reading → Type 0
+Stands text c l (Unfit p) = (length text ≤ mostBytes) × (p ≤ length text) × RefusedAt text p
+Stands text c l Over = (mostBytes < length text) ⊎ ((x : Program) × Denotes text x × ¬ Within text c l x)
+Stands text c l (Accepted m t) = (x : Program) × Denotes text x × Within text c l x
 
 module _ (text : List ℕ) (c l : ℕ) where
   means-denoted : (x : Program) → Denotes text x → length text ≤ mostBytes → (b : Bool) → tooMany (length (joined (threads x))) (length (threads x)) c l ≡ b
-      → Means text c l (cond b Over (Accepted (length (joined (threads x))) (length (threads x))))
+      → Stands text c l (cond b Over (Accepted (length (joined (threads x))) (length (threads x))))
   means-denoted x d h true e = inr (x, d, λ w. true≢false (sym e ∙ few-enough _ _ c l (within-few text c l x w)))
   means-denoted x d h false e = (x, d, within text c l x h (few _ _ c l e))
 
-  means-limited : (j : Judged) → judgedOf text ≡ j → Says text j → length text ≤ mostBytes → Means text c l (limited j c l)
-  means-limited (Refused p) e k h = (h, k)
+  means-limited : (j : Judged) → judgedOf text ≡ j → Says text j → length text ≤ mostBytes → Stands text c l (limited j c l)
+  means-limited (Refused p) e k h = (h, refused-inside text p k, k)
   means-limited (Passed m t) e (x, d) h =
       let q : Passed (length (joined (threads x))) (length (threads x)) ≡ Passed m t = sym (denoted-judged text x d) ∙ e in
-      subst (λ (j : Judged). Means text c l (limited j c l)) q (means-denoted x d h (tooMany (length (joined (threads x))) (length (threads x)) c l) refl)
+      subst (λ (j : Judged). Stands text c l (limited j c l)) q (means-denoted x d h (tooMany (length (joined (threads x))) (length (threads x)) c l) refl)
 
-  means : (b : Bool) → ltb mostBytes (length text) ≡ b → Means text c l (cond b Over (limited (judgedOf text) c l))
+  means : (b : Bool) → ltb mostBytes (length text) ≡ b → Stands text c l (cond b Over (limited (judgedOf text) c l))
   means true e = inl (ltb-true mostBytes (length text) e)
   means false e = means-limited (judgedOf text) refl (says text) (ltb-false mostBytes (length text) e)
+
+-- what is not accepted writes nothing
+unwritten : (r : Reading) → ((m t : ℕ) → ¬ (r ≡ Accepted m t)) → (new old : List ℕ) → written r new old ≡ old
+unwritten (Unfit p) n new old = refl
+unwritten Over n new old = refl
+unwritten (Accepted m t) n new old = absurd (n m t refl)
 
 module _ (text commands lengths commands′ lengths′ : List ℕ) (r : Reading) (e : answered r ≡ reading text (length commands) (length lengths)) where
   abbrev c : ℕ
@@ -167,8 +181,8 @@ module _ (text commands lengths commands′ lengths′ : List ℕ) (r : Reading)
   abbrev l : ℕ
   l = length lengths
 
-  meaning : Means text c l r
-  meaning = subst (Means text c l) (sym (answer-is text c l r e)) (means text c l (ltb mostBytes (length text)) refl)
+  meaning : Stands text c l r
+  meaning = subst (Stands text c l) (sym (answer-is text c l r e)) (means text c l (ltb mostBytes (length text)) refl)
 
   short : length text ≤ mostBytes → r ≡ limited (judgedOf text) c l
   short h = answer-is text c l r e ∙ rw (le-ltb mostBytes (length text) h)
@@ -187,11 +201,12 @@ module _ (text commands lengths commands′ lengths′ : List ℕ) (r : Reading)
     grammatical =
         record {
           accepts = accepts;
-          accepted = λ m t q. subst (Means text c l) q meaning;
+          accepted = λ m t q. subst (Stands text c l) q meaning;
           one = λ x y d f. program-one x y (sym (spelt-tokens lexer d) ∙ spelt-tokens lexer f);
-          refuses = λ p q. subst (Means text c l) q meaning;
+          refuses = λ p q. subst (Stands text c l) q meaning;
           refused = λ p h k. short h ∙ rw (refused-judged text p k);
-          too-much = λ q. subst (Means text c l) q meaning;
+          too-much = λ q. subst (Stands text c l) q meaning;
+          untouched = λ n. (rows ∙ unwritten r n (rowNumbers text) commands, lens ∙ unwritten r n (threadLengths text) lengths);
         }
 
     pub promised : Read text commands lengths commands′ lengths′ r
@@ -248,3 +263,33 @@ judged-rooms text commands lengths m t e q =
       rows = omega (arith, f .2, n .0, flat-long (readOf text .rows));
       lens = omega (arith, f .3, n .1);
     }
+
+-- the grammar's clauses alone leave no other answer, and no other tables, either
+module _ {text commands lengths a b a′ b′ : List ℕ} where
+  same-answer : (r r′ : Reading) → ByGrammar text commands lengths a b r → ByGrammar text commands lengths a′ b′ r′ → r ≡ r′
+  same-answer (Unfit p) r′ x y = let (h, i, k) = x .refuses p refl in sym (y .refused p h k)
+  same-answer Over (Unfit q) x y = let (h, i, k) = y .refuses q refl in x .refused q h k
+  same-answer Over Over x y = refl
+  same-answer Over (Accepted m t) x y = let (z, d, w) = y .accepted m t refl in x .accepts z d w .many ∙ sym (y .accepts z d w .many)
+  same-answer (Accepted m t) r′ x y = let (z, d, w) = x .accepted m t refl in x .accepts z d w .many ∙ sym (y .accepts z d w .many)
+
+  kept : (r : Reading) → ((m t : ℕ) → ¬ (r ≡ Accepted m t)) → ByGrammar text commands lengths a b r → ByGrammar text commands lengths a′ b′ r → (a ≡ a′) × (b ≡ b′)
+  kept r n x y =
+      let (p, q) = x .untouched n in
+      let (p′, q′) = y .untouched n in
+      (p ∙ sym p′, q ∙ sym q′)
+
+  same-tables : (r : Reading) → ByGrammar text commands lengths a b r → ByGrammar text commands lengths a′ b′ r → (a ≡ a′) × (b ≡ b′)
+  same-tables (Unfit p) x y = kept (Unfit p) (λ m t (e : Unfit p ≡ Accepted m t). true≢false cc) x y
+  same-tables Over x y = kept Over (λ m t (e : Over ≡ Accepted m t). true≢false cc) x y
+  same-tables (Accepted m t) x y =
+      let (z, d, w) = x .accepted m t refl in
+      let h = x .accepts z d w in
+      let h′ = y .accepts z d w in
+      (h .rows ∙ sym (h′ .rows), h .lens ∙ sym (h′ .lens))
+
+  pub grammar-one : (r r′ : Reading) → ByGrammar text commands lengths a b r → ByGrammar text commands lengths a′ b′ r′ → (r ≡ r′) × (a ≡ a′) × (b ≡ b′)
+  grammar-one r r′ x y =
+      let q = same-answer r r′ x y in
+      let (p, s) = same-tables r x (subst (ByGrammar text commands lengths a′ b′) (sym q) y) in
+      (q, p, s)

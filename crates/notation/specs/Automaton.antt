@@ -1,23 +1,23 @@
 -- The reader, token by token.
 use mathlib.Core.Bool.{Bool, true, false}
 use Prim.Native.Nat.{ℕ}
-use Rattle.spelling.specs.Machine.{Move, refuse, on, rows, thread, row}
+use Rattle.spelling.specs.Machine.{Move, refuse, on, rowDone, threadDone, row}
 use Rattle.notation.specs.declared.tokens.Token.{Token}
 use Rattle.notation.specs.declared.tokens.Token.the-variants.{Access, Signal, Return, Number, Semi, Bars, Misfit}
 use Rattle.notation.specs.declared.automaton.State.{State}
-use Rattle.notation.specs.declared.automaton.State.the-variants.{Command, Address, Barrier, Count, Close, Part}
+use Rattle.notation.specs.declared.automaton.State.the-variants.{Word, Address, Barrier, Count, Close, Part}
 use Rattle.notation.specs.declared.automaton.Moved.{Moved}
 use Rattle.notation.specs.declared.automaton.Moved.the-variants.{Refuse, On, Row, Thread}
 
--- where a command or `return` is expected
-abbrev pub atCommand : Token → Moved
-atCommand (Access k) = On (Address k)
-atCommand (Signal k) = On (Barrier k)
-atCommand Return = Thread
-atCommand (Number n) = Refuse
-atCommand Semi = Refuse
-atCommand Bars = Refuse
-atCommand Misfit = Refuse
+-- where the word of a command or `return` is expected
+abbrev pub atWord : Token → Moved
+atWord (Access k) = On (Address k)
+atWord (Signal k) = On (Barrier k)
+atWord Return = Thread
+atWord (Number n) = Refuse
+atWord Semi = Refuse
+atWord Bars = Refuse
+atWord Misfit = Refuse
 
 -- where a number is expected
 abbrev pub atNumber : (ℕ → Moved) → Token → Moved
@@ -35,7 +35,7 @@ atClose (Access k) = Refuse
 atClose (Signal k) = Refuse
 atClose Return = Refuse
 atClose (Number n) = Refuse
-atClose Semi = On Command
+atClose Semi = On Word
 atClose Bars = Refuse
 atClose Misfit = Refuse
 
@@ -46,11 +46,11 @@ atPart (Signal k) = Refuse
 atPart Return = Refuse
 atPart (Number n) = Refuse
 atPart Semi = Refuse
-atPart Bars = On Command
+atPart Bars = On Word
 atPart Misfit = Refuse
 
 unfoldable pub stepped : State → Token → Moved
-stepped Command t = atCommand t
+stepped Word t = atWord t
 stepped (Address k) t = atNumber (λ g. Row k g 0) t
 stepped (Barrier k) t = atNumber (λ b. On (Count k b)) t
 stepped (Count k b) t = atNumber (λ n. Row k b n) t
@@ -59,7 +59,7 @@ stepped Part t = atPart t
 
 -- may the text end here?
 abbrev pub ended : State → Bool
-ended Command = false
+ended Word = false
 ended (Address k) = false
 ended (Barrier k) = false
 ended (Count k b) = false
@@ -70,8 +70,8 @@ ended Part = true
 abbrev pub move : Moved → Move State
 move Refuse = refuse
 move (On s) = on s
-move (Row k n c) = rows (row k n c) Close
-move Thread = thread Part
+move (Row k n c) = rowDone (row k n c) Close
+move Thread = threadDone Part
 
 abbrev pub next : State → Token → Move State
 next s t = move (stepped s t)

@@ -1,4 +1,4 @@
--- What a reading promises: by equation with the reader's definition, and by the grammar alone.
+-- What a reading promises: by equation with the reader's definition, and by the grammar, without the automaton.
 use mathlib.Core.Path.{_≡_}
 use mathlib.Core.Logic.{_⊎_}
 use mathlib.Core.List.{List}
@@ -31,7 +31,7 @@ pub record Holds (commands lengths commands′ lengths′ : List ℕ) (r : Readi
 abbrev pub RefusedAt : List ℕ → ℕ → Type 0
 RefusedAt text p = R.Refused Spells Whole text (tokens text) (starts text) p
 
--- The promise by the grammar alone.
+-- The promise by the grammar and the tokens of the text, without the automaton.
 pub record ByGrammar (text commands lengths commands′ lengths′ : List ℕ) (r : Reading) : Type 0 where
   -- a text that denotes a program within the limits is read as that program
   pub accepts : (x : Program) → Denotes text x → Within text (length commands) (length lengths) x → Holds commands lengths commands′ lengths′ r x
@@ -40,11 +40,13 @@ pub record ByGrammar (text commands lengths commands′ lengths′ : List ℕ) (
   -- no text denotes two
   pub one : (x y : Program) → Denotes text x → Denotes text y → x ≡ y
   -- 12 exactly at the place where a text that is not too long is refused
-  pub refuses : (p : ℕ) → r ≡ Unfit p → (length text ≤ mostBytes) × RefusedAt text p
+  pub refuses : (p : ℕ) → r ≡ Unfit p → (length text ≤ mostBytes) × (p ≤ length text) × RefusedAt text p
   pub refused : (p : ℕ) → length text ≤ mostBytes → RefusedAt text p → r ≡ Unfit p
   -- 13 for a text that is too long, or denotes a program that is not within the limits
   pub too-much : r ≡ Over
       → (mostBytes < length text) ⊎ ((x : Program) × Denotes text x × ¬ Within text (length commands) (length lengths) x)
+  -- both tables are untouched by 12 and 13
+  pub untouched : ((m t : ℕ) → ¬ (r ≡ Accepted m t)) → (commands′ ≡ commands) × (lengths′ ≡ lengths)
 
 -- The promise by equation, and by the grammar.
 pub record Read (text commands lengths commands′ lengths′ : List ℕ) (r : Reading) : Type 0 where

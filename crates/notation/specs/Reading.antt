@@ -10,7 +10,7 @@ use Rattle.tables.specs.Verdicts.{tell}
 use Rattle.tables.specs.declared.verdict.Told.{Told}
 use Rattle.spelling.specs.Machine.{Outcome, found, flat}
 use Rattle.spelling.specs.Over.{over}
-use Rattle.notation.specs.declared.automaton.State.the-variants.{Command}
+use Rattle.notation.specs.declared.automaton.State.the-variants.{Word}
 use Rattle.notation.specs.declared.scan.Judged.{Judged}
 use Rattle.notation.specs.declared.scan.Judged.the-variants.{Refused, Passed}
 use Rattle.notation.specs.declared.reading.Reading.{Reading}
@@ -25,7 +25,7 @@ mostBytes = 32768
 
 -- what is found in a text
 abbrev pub readOf : List ℕ → Outcome
-readOf text = found next ended (tokens text) Command 0
+readOf text = found next ended (tokens text) Word 0
 
 abbrev pub rowNumbers : List ℕ → List ℕ
 rowNumbers text = flat (readOf text .rows)

@@ -4,8 +4,8 @@ ghost use Rattle.notation.specs.Automaton.{stepped, ended};
 use crate::tokens::Token;
 
 pub(crate) enum State {
-    // a command, or `return`
-    Command,
+    // the word of a command, or `return`
+    Word,
     // the address of an access, with its kind
     Address(u32),
     // the barrier of a signal, with its kind
@@ -30,7 +30,7 @@ pub(crate) fn step(state: State, token: Token) -> Moved
     ensures { λ r. ⌜ r ≡ stepped state token ⌝ }
 {
     match state {
-        State::Command => match token {
+        State::Word => match token {
             Token::Access(kind) => Moved::On(State::Address(kind)),
             Token::Signal(kind) => Moved::On(State::Barrier(kind)),
             Token::Return => Moved::Thread,
@@ -49,11 +49,11 @@ pub(crate) fn step(state: State, token: Token) -> Moved
             _ => Moved::Refuse,
         },
         State::Close => match token {
-            Token::Semi => Moved::On(State::Command),
+            Token::Semi => Moved::On(State::Word),
             _ => Moved::Refuse,
         },
         State::Part => match token {
-            Token::Bars => Moved::On(State::Command),
+            Token::Bars => Moved::On(State::Word),
             _ => Moved::Refuse,
         },
     }

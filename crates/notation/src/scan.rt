@@ -22,7 +22,7 @@ pub(crate) fn judge(text: &[u8]) -> Judged
     ensures { λ r. ⌜ r ≡ judgedOf (now (text .entry)) ⌝ }
 {
     let mut at = 0;
-    let mut state = State::Command;
+    let mut state = State::Word;
     let mut commands = 0;
     let mut threads = 0;
     loop {
@@ -71,7 +71,7 @@ pub(crate) fn write(text: &[u8], commands: &mut [u32], lengths: &mut [u32])
     ensures { λ _. ⌜ (now (commands .exit) ≡ over (rowNumbers (now (text .entry))) (now (commands .entry))) × (now (lengths .exit) ≡ over (threadLengths (now (text .entry))) (now (lengths .entry))) ⌝ }
 {
     let mut at = 0;
-    let mut state = State::Command;
+    let mut state = State::Word;
     let mut numbers = 0;
     let mut threads = 0;
     let mut length = 0;

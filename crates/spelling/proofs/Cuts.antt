@@ -7,11 +7,11 @@ use Prim.Native.Nat.{ℕ, zero, suc, _+_, _≤_, _<_}
 use native.Mathlib.Decide.{decLt}
 use native.Mathlib.Omega.{arith}
 use lib.Dec.{eqb}
-use lib.ListN.{length, drop, length-drop, length-map}
+use lib.ListN.{length, getD, drop, length-drop, length-map}
 use lib.Seq.{drop-drop}
 use borrow.Author.Tests.{eq-eqb, ne-eqb, eqb-false}
 use Rattle.spelling.specs.Bytes.{is, blank, blanks, skip}
-use Rattle.spelling.specs.Tokens.{Cut, cut, later, cutsN, cuts, starts, tokens}
+use Rattle.spelling.specs.Tokens.{Cut, cut, afterFirst, cutsN, cuts, starts, tokens}
 use Rattle.spelling.proofs.Runs.{run-le}
 
 same-rest : {A B : Type 0} (g : A → B) (b : Bool) (z x y : A) → (b ≡ false → g x ≡ g y) → g (cond b z x) ≡ g (cond b z y)
@@ -23,10 +23,10 @@ length-skip s = omega (arith, length-drop (blanks s) s, run-le (is blank) s)
 
 module _ (size : List ℕ → ℕ) (pos : (s : List ℕ) → 0 < length s → 0 < size s) (most : (s : List ℕ) → 0 < length s → size s ≤ length s) where
   -- how much a token leaves
-  pub length-later : (s : List ℕ) → 0 < length (skip s) → blanks s + size (skip s) + length (later size s) ≡ length s
+  pub length-later : (s : List ℕ) → 0 < length (skip s) → blanks s + size (skip s) + length (afterFirst size s) ≡ length s
   length-later s h = omega (arith, length-skip s, length-drop (size (skip s)) (skip s), most (skip s) h)
 
-  shorter : (s : List ℕ) → eqb (length (skip s)) 0 ≡ false → length (later size s) < length s
+  shorter : (s : List ℕ) → eqb (length (skip s)) 0 ≡ false → length (afterFirst size s) < length s
   shorter s e =
       let h : 0 < length (skip s) = omega (arith, eqb-false (length (skip s)) 0 e) in
       omega (arith, length-later s h, pos (skip s) h)
@@ -39,7 +39,7 @@ module _ (size : List ℕ → ℕ) (pos : (s : List ℕ) → 0 < length s → 0 
   -- fuel for the later tokens is all that counts
   fuel-step : (n m : ℕ) (s : List ℕ) (p : ℕ)
       → (eqb (length (skip s)) 0 ≡ false
-      → cutsN size n (later size s) (p + blanks s + size (skip s)) ≡ cutsN size m (later size s) (p + blanks s + size (skip s)))
+      → cutsN size n (afterFirst size s) (p + blanks s + size (skip s)) ≡ cutsN size m (afterFirst size s) (p + blanks s + size (skip s)))
       → cutsN size (suc n) s p ≡ cutsN size (suc m) s p
   unfolding cutsN
   fuel-step n m s p f =
@@ -49,21 +49,21 @@ module _ (size : List ℕ → ℕ) (pos : (s : List ℕ) → 0 < length s → 0 
   cuts-fuel zero m s p h g = cuts-empty zero s p h ∙ sym (cuts-empty m s p h)
   cuts-fuel (suc n) zero s p h g = cuts-empty (suc n) s p g ∙ sym (cuts-empty zero s p g)
   cuts-fuel (suc n) (suc m) s p h g =
-      fuel-step n m s p (λ e. cuts-fuel n m (later size s) _ (omega (arith, shorter s e)) (omega (arith, shorter s e)))
+      fuel-step n m s p (λ e. cuts-fuel n m (afterFirst size s) _ (omega (arith, shorter s e)) (omega (arith, shorter s e)))
 
   -- the first token and the others, or none
-  cuts-step : (s : List ℕ) (p : ℕ) → cuts size s p ≡ cutsN size (suc (length (later size s))) s p
+  cuts-step : (s : List ℕ) (p : ℕ) → cuts size s p ≡ cutsN size (suc (length (afterFirst size s))) s p
   cuts-step s p =
       cuts-fuel (length s) (suc (length s)) s p (omega arith) (omega arith)
-      ∙ fuel-step (length s) (length (later size s)) s p
-      (λ e. cuts-fuel (length s) (length (later size s)) (later size s) _ (omega (arith, shorter s e)) (omega arith))
+      ∙ fuel-step (length s) (length (afterFirst size s)) s p
+      (λ e. cuts-fuel (length s) (length (afterFirst size s)) (afterFirst size s) _ (omega (arith, shorter s e)) (omega arith))
 
   cuts-end : (s : List ℕ) (p : ℕ) → length (skip s) ≡ 0 → cuts size s p ≡ []
   unfolding cutsN
   cuts-end s p e = cuts-step s p ∙ rw (eq-eqb (length (skip s)) 0 e)
 
   cuts-on : (s : List ℕ) (p : ℕ) → 0 < length (skip s)
-      → cuts size s p ≡ cut (p + blanks s) (skip s) ∷ cuts size (later size s) (p + blanks s + size (skip s))
+      → cuts size s p ≡ cut (p + blanks s) (skip s) ∷ cuts size (afterFirst size s) (p + blanks s + size (skip s))
   unfolding cutsN
   cuts-on s p h = cuts-step s p ∙ rw (ne-eqb (length (skip s)) 0 (λ e. omega arith))
 
@@ -71,8 +71,22 @@ module _ (size : List ℕ → ℕ) (pos : (s : List ℕ) → 0 < length s → 0 
   starts-end s p e = ap (map (λ (c : Cut). c .place)) (cuts-end s p e)
 
   pub starts-on : (s : List ℕ) (p : ℕ) → 0 < length (skip s)
-      → starts size s p ≡ (p + blanks s) ∷ starts size (later size s) (p + blanks s + size (skip s))
+      → starts size s p ≡ (p + blanks s) ∷ starts size (afterFirst size s) (p + blanks s + size (skip s))
   starts-on s p h = ap (map (λ (c : Cut). c .place)) (cuts-on s p h)
+
+  -- no token begins past the end
+  start-none : (i : ℕ) (s : List ℕ) (p : ℕ) → ¬ (0 < length (skip s)) → getD (starts size s p) i (p + length s) ≤ p + length s
+  start-none i s p n = rw (starts-end s p (omega arith)) (omega arith)
+
+  pub start-inside : (i : ℕ) (s : List ℕ) (p : ℕ) → getD (starts size s p) i (p + length s) ≤ p + length s
+  start-inside zero s p =
+      by-cases (decLt 0 (length (skip s))) (λ (h : 0 < length (skip s)). rw (starts-on s p h) (omega (arith, length-skip s))) (start-none zero s p)
+  start-inside (suc i) s p =
+      by-cases (decLt 0 (length (skip s)))
+      (λ (h : 0 < length (skip s)).
+      let e : p + length s ≡ p + blanks s + size (skip s) + length (afterFirst size s) = omega (arith, length-later s h) in
+      rw (starts-on s p h, e) (start-inside i (afterFirst size s) (p + blanks s + size (skip s))))
+      (start-none (suc i) s p)
 
   module _ {T : Type 0} (token : List ℕ → T) where
     abbrev tok : Cut → T
@@ -83,7 +97,7 @@ module _ (size : List ℕ → ℕ) (pos : (s : List ℕ) → 0 < length s → 0 
     unfolding cutsN
     anywhere zero s p q = refl
     anywhere (suc n) s p q =
-        same-rest (map tok) (eqb (length (skip s)) 0) [] _ _ (λ e. ap (λ (l : List T). token (skip s) ∷ l) (anywhere n (later size s) _ _))
+        same-rest (map tok) (eqb (length (skip s)) 0) [] _ _ (λ e. ap (λ (l : List T). token (skip s) ∷ l) (anywhere n (afterFirst size s) _ _))
 
     tokens-anywhere : (s : List ℕ) (p : ℕ) → map (λ (c : Cut). token (c .bytes)) (cuts size s p) ≡ tokens size token s
     tokens-anywhere s p = anywhere (length s) s p 0
@@ -95,8 +109,8 @@ module _ (size : List ℕ → ℕ) (pos : (s : List ℕ) → 0 < length s → 0 
     pub tokens-end : (s : List ℕ) → length (skip s) ≡ 0 → tokens size token s ≡ []
     tokens-end s e = ap (map tok) (cuts-end s 0 e)
 
-    pub tokens-on : (s : List ℕ) → 0 < length (skip s) → tokens size token s ≡ token (skip s) ∷ tokens size token (later size s)
-    tokens-on s h = ap (map tok) (cuts-on s 0 h) ∙ ap (λ (l : List T). token (skip s) ∷ l) (tokens-anywhere (later size s) _)
+    pub tokens-on : (s : List ℕ) → 0 < length (skip s) → tokens size token s ≡ token (skip s) ∷ tokens size token (afterFirst size s)
+    tokens-on s h = ap (map tok) (cuts-on s 0 h) ∙ ap (λ (l : List T). token (skip s) ∷ l) (tokens-anywhere (afterFirst size s) _)
 
     -- nor on the blanks before them
     pub tokens-skip : (s r : List ℕ) → skip s ≡ skip r → tokens size token s ≡ tokens size token r
@@ -114,7 +128,7 @@ module _ (size : List ℕ → ℕ) (pos : (s : List ℕ) → 0 < length s → 0 
     abbrev next : ℕ
     next = at + blanks rest + size (skip rest)
 
-    later-rest : later size rest ≡ drop next text
+    later-rest : afterFirst size rest ≡ drop next text
     later-rest = ap (drop (size (skip rest))) (drop-drop (blanks rest) at text) ∙ drop-drop (size (skip rest)) (at + blanks rest) text
 
     pub end-place : at ≤ length text → length (skip rest) ≡ 0 → at + blanks rest ≡ length text

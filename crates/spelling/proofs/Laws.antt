@@ -5,7 +5,7 @@ use mathlib.Core.List.{List, [], _∷_, _++_}
 use Prim.Native.Nat.{ℕ, _≤_, _<_}
 use lib.ListN.{length, take, drop}
 use Rattle.spelling.specs.Bytes.{run, blanks}
-use Rattle.spelling.specs.Machine.{Move, refuse, on, rows, thread}
+use Rattle.spelling.specs.Machine.{Move, refuse, on, rowDone, threadDone}
 
 -- every one of a list
 abbrev pub Each : {T : Type 0} → (T → Type 0) → List T → Type 0
@@ -29,14 +29,14 @@ pub record Lexer {T : Type 0} (size : List ℕ → ℕ) (token : List ℕ → T)
 abbrev pub To : {S : Type 0} → Move S → S → Type 0
 To refuse u = ⊥
 To (on s) u = s ≡ u
-To (rows r s) u = s ≡ u
-To (thread s) u = s ≡ u
+To (rowDone r s) u = s ≡ u
+To (threadDone s) u = s ≡ u
 
 to-one : {S : Type 0} (m : Move S) {u v : S} → To m u → To m v → u ≡ v
 to-one refuse g h = absurd g
 to-one (on s) g h = sym g ∙ h
-to-one (rows r s) g h = sym g ∙ h
-to-one (thread s) g h = sym g ∙ h
+to-one (rowDone r s) g h = sym g ∙ h
+to-one (threadDone s) g h = sym g ∙ h
 
 module _ {S T : Type 0} (next : S → T → Move S) where
   abbrev pub Goes : S → T → S → Type 0

@@ -10,7 +10,7 @@ use native.Mathlib.Omega.{arith}
 use lib.ListN.{length, getD, take, length-append, List·getD-eq-default}
 use lib.Seq.{drop-append-seam, take-add, take-length, take-nil}
 use Rattle.spelling.specs.Bytes.{classOf, is, blank, run, blanks, skip}
-use Rattle.spelling.specs.Tokens.{later, starts, tokens}
+use Rattle.spelling.specs.Tokens.{afterFirst, starts, tokens}
 use Rattle.spelling.specs.Spells.{Spells, none, gap, token as one}
 use Rattle.spelling.proofs.Runs.{run-cases, run-take, run-behind}
 use Rattle.spelling.proofs.Laws.{Each, Lexer}
@@ -74,11 +74,11 @@ module _ {T : Type 0} {size : List ℕ → ℕ} {token : List ℕ → T} {Spelli
       before-first : Before zero s q
       before-first = rw (starts-on size (L .pos) (L .most) s q h) (blanks s, refl, blanks-alone s)
 
-      before-next : (j : ℕ) → Fits (token u) → Before j (later size s) (q + blanks s + size u) → Before (suc j) s q
+      before-next : (j : ℕ) → Fits (token u) → Before j (afterFirst size s) (q + blanks s + size u) → Before (suc j) s q
       before-next j f (k, place, x) =
-          let e : q + length s ≡ q + blanks s + size u + length (later size s) = omega (arith, length-later size (L .pos) (L .most) s h) in
-          let y : Spelt (take (size u) u ++ take k (later size s)) (token u ∷ take j (toks (later size s))) =
-          one _ _ _ (token u) (L .spelt u h f) (run-take (extends (token u)) k (later size s) (L .apart u h f)) refl x in
+          let e : q + length s ≡ q + blanks s + size u + length (afterFirst size s) = omega (arith, length-later size (L .pos) (L .most) s h) in
+          let y : Spelt (take (size u) u ++ take k (afterFirst size s)) (token u ∷ take j (toks (afterFirst size s))) =
+          one _ _ _ (token u) (L .spelt u h f) (run-take (extends (token u)) k (afterFirst size s) (L .apart u h f)) refl x in
           rw (starts-on size (L .pos) (L .most) s q h, tokens-on size (L .pos) (L .most) token s h, e)
           (blanks s + (size u + k), omega arith, rw (take-add (blanks s) (size u + k) s, take-add (size u) k u) (blanks-spelt s _ _ y))
 
@@ -87,8 +87,8 @@ module _ {T : Type 0} {size : List ℕ → ℕ} {token : List ℕ → T} {Spelli
   before (suc j) s q f =
       by-cases (decLt 0 (length (skip s)))
       (λ (h : 0 < length (skip s)).
-      let g : Each Fits (token (skip s) ∷ take j (toks (later size s))) = rw (tokens-on size (L .pos) (L .most) token s h) at f in
-      before-next s q h j (g .0) (before j (later size s) _ (g .1)))
+      let g : Each Fits (token (skip s) ∷ take j (toks (afterFirst size s))) = rw (tokens-on size (L .pos) (L .most) token s h) at f in
+      before-next s q h j (g .0) (before j (afterFirst size s) _ (g .1)))
       (before-end s q (suc j))
 
   pub prefix : (text : List ℕ) (i : ℕ) → Each Fits (take i (tokens size token text))

@@ -22,8 +22,8 @@ flat (r ∷ rs) = r .kind ∷ r .name ∷ r .count ∷ flat rs
 pub data Move (S : Type 0) : Type 0 where
   refuse : Move S
   on : S → Move S
-  rows : Row → S → Move S
-  thread : S → Move S
+  rowDone : Row → S → Move S
+  threadDone : S → Move S
 
 -- what is found: the rows, the lengths of the threads, and how many tokens stand before the one that does not fit, or before the end where it comes too soon
 pub record Outcome : Type 0 where
@@ -43,8 +43,8 @@ further (some i) = some (suc i)
 abbrev pub moved : {S : Type 0} → Move S → ℕ → (S → ℕ → Outcome) → Outcome
 moved refuse n f = outcome [] [] (some 0)
 moved (on s) n f = outcome (f s n .rows) (f s n .lengths) (further (f s n .stop))
-moved (rows r s) n f = outcome (r ∷ f s (suc n) .rows) (f s (suc n) .lengths) (further (f s (suc n) .stop))
-moved (thread s) n f = outcome (f s 0 .rows) (n ∷ f s 0 .lengths) (further (f s 0 .stop))
+moved (rowDone r s) n f = outcome (r ∷ f s (suc n) .rows) (f s (suc n) .lengths) (further (f s (suc n) .stop))
+moved (threadDone s) n f = outcome (f s 0 .rows) (n ∷ f s 0 .lengths) (further (f s 0 .stop))
 
 -- what is found in tokens, from a state
 unfoldable pub found : {S T : Type 0} (next : S → T → Move S) (ends : S → Bool) → List T → S → ℕ → Outcome

@@ -16,14 +16,14 @@ cut p s = record { place = p; bytes = s }
 
 module _ (size : List ℕ → ℕ) where
   -- the bytes after their blanks and their first token
-  abbrev pub later : List ℕ → List ℕ
-  later s = drop (size (skip s)) (skip s)
+  abbrev pub afterFirst : List ℕ → List ℕ
+  afterFirst s = drop (size (skip s)) (skip s)
 
   -- where the tokens of the bytes begin, at most n of them; the bytes stand at place p
   unfoldable pub cutsN : ℕ → List ℕ → ℕ → List Cut
   cutsN zero s p = []
   cutsN (suc n) s p =
-      cond (eqb (length (skip s)) 0) [] (cut (p + blanks s) (skip s) ∷ cutsN n (later s) (p + blanks s + size (skip s)))
+      cond (eqb (length (skip s)) 0) [] (cut (p + blanks s) (skip s) ∷ cutsN n (afterFirst s) (p + blanks s + size (skip s)))
 
   -- all of them, since each takes a byte
   abbrev pub cuts : List ℕ → ℕ → List Cut
