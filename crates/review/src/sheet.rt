@@ -18,7 +18,7 @@ impl Sheet {
     // so many pairs are kept
     pub const KEPT: usize = 16;
 
-    pub(crate) fn empty() -> Self
+    pub fn empty() -> Self
         ensures { λ r. ⌜ r ≡ sheetOf [] ⌝ }
     {
         let none = Pair {

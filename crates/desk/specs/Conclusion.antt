@@ -1,0 +1,37 @@
+-- What the review of a text tells: it reads, writes a schedule and judges it.
+use mathlib.Core.Bool.{cond}
+use mathlib.Core.List.{List, []}
+use Prim.Native.Nat.{ℕ, _*_}
+use lib.Dec.{eqb}
+use Rattle.tables.specs.Limits.{mostRows, mostThreads}
+use Rattle.tables.specs.declared.verdict.Told.{Told}
+use Rattle.relation.specs.Table.{words}
+use Rattle.notation.specs.Reading.{reading, rowNumbers, threadLengths}
+use Rattle.replay.specs.Writer.{schedule}
+use Rattle.review.specs.Sheet.{sheetOf}
+use Rattle.review.specs.Judge.{verdictOf, faultPairs, generations, reaches, fills}
+use Rattle.review.specs.declared.sheet.Pair.{Pair}
+use Rattle.desk.specs.declared.conclusion.Conclusion.{Conclusion}
+
+-- a refusal, or a verdict without a fault's pairs: the sheet is empty with total 0
+abbrev pub bare : Told → Conclusion
+bare t = record { told = t; sheet = sheetOf [] }
+
+-- two tables, judged by the writer's schedule in full rooms
+module _ (commands lengths : List ℕ) where
+  abbrev pub toldOf : Told
+  toldOf = verdictOf commands lengths (schedule commands lengths) (words mostRows) mostRows
+
+  abbrev pub pairsOf : List Pair
+  pairsOf = faultPairs commands lengths (generations commands lengths (schedule commands lengths)) (reaches commands lengths (schedule commands lengths))
+
+  unfoldable pub ofTables : Conclusion
+  ofTables = cond (fills (toldOf .number)) (record { told = toldOf; sheet = sheetOf pairsOf }) (bare toldOf)
+
+-- what a reading into full rooms answers
+abbrev pub readAs : List ℕ → Told
+readAs text = reading text (mostRows * 3) mostThreads .told
+
+-- A refused reading is reported like a verdict, with total 0 and no pairs.
+unfoldable pub ofText : List ℕ → Conclusion
+ofText text = cond (eqb (readAs text .number) 0) (ofTables (rowNumbers text) (threadLengths text)) (bare (readAs text))

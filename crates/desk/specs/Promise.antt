@@ -1,0 +1,67 @@
+-- What the text review promises.
+use mathlib.Core.Path.{_≡_}
+use mathlib.Core.Logic.{_⊎_, _↔_}
+use mathlib.Core.List.{List, _++_}
+use Prim.Native.Nat.{ℕ, _*_, _≤_, _<_}
+use lib.ListN.{length}
+use Rattle.tables.specs.Limits.{mostRows, mostThreads}
+use Rattle.tables.specs.Rules.{checked}
+use Rattle.tables.specs.Verdicts.{tell}
+use Rattle.tables.specs.declared.verdict.Told.{Told}
+use Rattle.spelling.specs.Machine.{flat}
+use Rattle.spelling.specs.Over.{over}
+use Rattle.notation.specs.Grammar.{Program, Denotes, joined, threads, programRows, programLengths}
+use Rattle.notation.specs.Reading.{mostBytes}
+use Rattle.notation.specs.Promise.{Within}
+use Rattle.replay.specs.Schedules.{Agree, Disagree}
+use Rattle.review.specs.Sheet.{sheetOf}
+use Rattle.review.specs.Agreement.{SameOrder}
+use Rattle.review.specs.declared.sheet.Pair.{Pair}
+use Rattle.desk.specs.Conclusion.{ofText}
+use Rattle.desk.specs.Report.{leastRoom, report}
+
+-- the numbers of a program's command table
+abbrev pub numbers : Program → List ℕ
+numbers x = flat (programRows x)
+
+-- The text denotes the program, which is within the limits, and its rows keep the rules.
+pub record Sound (text : List ℕ) (x : Program) : Type 0 where
+  pub denotes : Denotes text x
+  pub within : Within text (mostRows * 3) mostThreads x
+  pub keeps : checked (numbers x) (programLengths x) ≡ tell 0 0 0
+
+-- Demand 3, of a text and the number that it is answered with.
+pub record JudgesText (text : List ℕ) (n : ℕ) : Type 0 where
+  -- 0 or 11 exactly when every legal complete schedule of the text's program ends clean with the same generation for each command
+  pub agreement : ((n ≡ 0) ⊎ (n ≡ 11)) ↔ ((x : Program) × Sound text x × Agree (numbers x) (programLengths x))
+  -- 0 exactly when, besides, every two conflicting accesses stand in the same order in all of them
+  pub order : (n ≡ 0) ↔ ((x : Program) × Sound text x × Agree (numbers x) (programLengths x) × SameOrder (numbers x) (programLengths x))
+  -- 7 to 10 only where that agreement fails
+  pub disagreement : 7 ≤ n → n ≤ 10 → (x : Program) × Sound text x × Disagree (numbers x) (programLengths x)
+
+-- Which numbers there are. Its rooms are full ones, so it never answers 4, and 13 only past the limits; its tables are of the reader's making
+-- and its schedule of the writer's, so 1, 2, 5 and 6 don't come either.
+pub record Numbers (text : List ℕ) (n : ℕ) : Type 0 where
+  pub some : (n ≡ 0) ⊎ (n ≡ 3) ⊎ ((7 ≤ n) × (n ≤ 13))
+  pub too-much : n ≡ 13
+      → (mostBytes < length text)
+      ⊎ ((x : Program) × Denotes text x × ((mostRows < length (joined (threads x))) ⊎ (mostThreads < length (threads x))))
+
+-- The contract of `review_text`: n is the answer, and the report room held `room` and then holds `room′`.
+pub record TextReviewed (text room room′ : List ℕ) (n : ℕ) : Type 0 where
+  -- 14: a short report room, tested before all else, room untouched
+  pub refuses : length room < leastRoom → (n ≡ 14) × (room′ ≡ room)
+  -- else the verdict number alone, and the report; bytes after it are kept
+  pub answers : leastRoom ≤ length room → n ≡ ofText text .told .number
+  pub prints : leastRoom ≤ length room → room′ ≡ over (report (ofText text)) room
+  -- any report has room
+  pub fits : length (report (ofText text)) ≤ leastRoom
+  pub numbers-are : leastRoom ≤ length room → Numbers text n
+  pub demand₃ : leastRoom ≤ length room → JudgesText text n
+
+-- A report tells its conclusion again, whatever stands after it in the room: verdict, places, total and kept pairs.
+abbrev pub ToldAgain : Type 0
+ToldAgain =
+    (t u : Told) (ps qs : List Pair) (rest rest′ : List ℕ)
+    → report (record { told = t; sheet = sheetOf ps }) ++ rest ≡ report (record { told = u; sheet = sheetOf qs }) ++ rest′
+    → (t ≡ u) × (sheetOf ps ≡ sheetOf qs) × (rest ≡ rest′)

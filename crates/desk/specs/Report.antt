@@ -1,0 +1,51 @@
+-- The report: `verdict V place P Q`, `total T`, then one line a kept pair, each line closed by a newline.
+use mathlib.Core.List.{List, [], _∷_, _++_}
+use Prim.Native.Nat.{ℕ, min}
+use lib.ListN.{take}
+use Rattle.tables.specs.declared.verdict.Told.{Told}
+use Rattle.review.specs.declared.sheet.Pair.{Pair}
+use Rattle.review.specs.declared.sheet.Sheet.{Sheet}
+use Rattle.review.specs.Sheet.{mostKept}
+use Rattle.desk.specs.declared.conclusion.Conclusion.{Conclusion}
+use Rattle.desk.specs.Figures.{figures}
+
+-- a report room has at least so many bytes
+unfoldable pub leastRoom : ℕ
+leastRoom = 192
+
+abbrev pub space : ℕ
+space = 32
+
+abbrev pub newline : ℕ
+newline = 10
+
+-- `verdict `, ` place ` and `total `
+abbrev pub verdictWord : List ℕ
+verdictWord = 118 ∷ 101 ∷ 114 ∷ 100 ∷ 105 ∷ 99 ∷ 116 ∷ space ∷ []
+
+abbrev pub placeWord : List ℕ
+placeWord = space ∷ 112 ∷ 108 ∷ 97 ∷ 99 ∷ 101 ∷ space ∷ []
+
+abbrev pub totalWord : List ℕ
+totalWord = 116 ∷ 111 ∷ 116 ∷ 97 ∷ 108 ∷ space ∷ []
+
+-- two numbers, and the line's end
+unfoldable pub twoNumbers : ℕ → ℕ → List ℕ
+twoNumbers a b = figures a ++ space ∷ figures b ++ newline ∷ []
+
+unfoldable pub verdictLine : Told → List ℕ
+verdictLine t = verdictWord ++ figures (t .number) ++ placeWord ++ twoNumbers (t .place) (t .also)
+
+unfoldable pub totalLine : ℕ → List ℕ
+totalLine n = totalWord ++ figures n ++ newline ∷ []
+
+unfoldable pub pairLines : List Pair → List ℕ
+pairLines [] = []
+pairLines (p ∷ ps) = twoNumbers (p .first) (p .second) ++ pairLines ps
+
+-- as many pairs as the smaller of the total and sixteen
+abbrev pub kept : Sheet → List Pair
+kept s = take (min (s .total) mostKept) (s .pairs)
+
+unfoldable pub report : Conclusion → List ℕ
+report c = verdictLine (c .told) ++ totalLine (c .sheet .total) ++ pairLines (kept (c .sheet))

@@ -1,0 +1,81 @@
+// The lines of the report.
+ghost use mathlib.Core.Path.{_≡_};
+ghost use Prim.Native.Nat.{_+_, _≤_, min};
+ghost use lib.ListN.{length};
+ghost use Rattle.spelling.specs.Over.{over};
+ghost use Rattle.desk.specs.Placed.{Puts};
+ghost use Rattle.desk.specs.Report.{twoNumbers, verdictLine, totalLine, pairLines, kept, report};
+use crate::conclusion::Conclusion;
+use crate::put::put;
+use crate::put::put_number;
+use review::Sheet;
+use tables::Told;
+
+pub(crate) struct Report;
+
+impl Report {
+    // a report room has at least so many bytes
+    pub(crate) const BYTES: usize = 192;
+}
+
+// Two numbers, a space between them, and the line's end.
+fn put_two(room: &mut [u8], at: usize, first: usize, second: usize) -> usize
+    requires { ⌜ at + length (twoNumbers first second) ≤ length (now room) ⌝ }
+    ensures { λ r. ⌜ Puts (now (room .entry)) (now (room .exit)) at (twoNumbers first second) r ⌝ }
+{
+    let after_first = put_number(room, at, first);
+    let after_space = put(room, after_first, b" ");
+    let after_second = put_number(room, after_space, second);
+    put(room, after_second, b"\n")
+}
+
+fn put_verdict(room: &mut [u8], at: usize, told: Told) -> usize
+    requires { ⌜ at + length (verdictLine told) ≤ length (now room) ⌝ }
+    ensures { λ r. ⌜ Puts (now (room .entry)) (now (room .exit)) at (verdictLine told) r ⌝ }
+{
+    let after_word = put(room, at, b"verdict ");
+    let after_number = put_number(room, after_word, told.number as usize);
+    let after_place = put(room, after_number, b" place ");
+    put_two(room, after_place, told.place, told.also)
+}
+
+fn put_total(room: &mut [u8], at: usize, total: usize) -> usize
+    requires { ⌜ at + length (totalLine total) ≤ length (now room) ⌝ }
+    ensures { λ r. ⌜ Puts (now (room .entry)) (now (room .exit)) at (totalLine total) r ⌝ }
+{
+    let after_word = put(room, at, b"total ");
+    let after_number = put_number(room, after_word, total);
+    put(room, after_number, b"\n")
+}
+
+fn least(a: usize, b: usize) -> usize
+    ensures { λ r. ⌜ r ≡ min a b ⌝ }
+{
+    if a < b { a } else { b }
+}
+
+// One line a kept pair.
+fn put_pairs(room: &mut [u8], at: usize, sheet: Sheet) -> usize
+    requires { ⌜ at + length (pairLines (kept sheet)) ≤ length (now room) ⌝ }
+    ensures { λ r. ⌜ Puts (now (room .entry)) (now (room .exit)) at (pairLines (kept sheet)) r ⌝ }
+{
+    let lines = least(sheet.total, Sheet::KEPT);
+    let mut next = at;
+    let mut i = 0;
+    while i < lines {
+        let pair = sheet.pairs[i];
+        next = put_two(room, next, pair.first, pair.second);
+        i += 1;
+    }
+    next
+}
+
+// The whole report, at the start of a room. Bytes after it are kept.
+pub(crate) fn print(room: &mut [u8], concluded: Conclusion)
+    requires { ⌜ length (report concluded) ≤ length (now room) ⌝ }
+    ensures { λ _. ⌜ now (room .exit) ≡ over (report concluded) (now (room .entry)) ⌝ }
+{
+    let after_verdict = put_verdict(room, 0, concluded.told);
+    let after_total = put_total(room, after_verdict, concluded.sheet.total);
+    put_pairs(room, after_total, concluded.sheet);
+}
