@@ -41,9 +41,10 @@ fn judge_tables(commands: &[u32], lengths: &[u32]) -> Conclusion
         &mut generations,
     );
     let verdict = found.verdict;
+    let sheet = found.sheet;
     Conclusion {
         told: verdict.number(),
-        sheet: found.sheet,
+        sheet,
     }
 }
 
