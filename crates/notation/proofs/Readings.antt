@@ -33,7 +33,7 @@ use Rattle.notation.proofs.Grammars.{lexer, grammar}
 use Rattle.notation.proofs.Passes.{flat-long}
 
 -- a text that denotes a program: what is found in it are the program's tables
-denoted-found : (text : List ℕ) (x : Program) → Denotes text x → readOf text ≡ outcome (programRows x) (programLengths x) none
+pub denoted-found : (text : List ℕ) (x : Program) → Denotes text x → readOf text ≡ outcome (programRows x) (programLengths x) none
 denoted-found text x d = ap (λ (ts : List Token). found next ended ts Word 0) (spelt-tokens lexer d) ∙ program-found x
 
 many-rows : (x : Program) → length (programRows x) ≡ length (joined (threads x))
@@ -121,14 +121,21 @@ module _ (text : List ℕ) (c l : ℕ) where
   abbrev long : Bool
   long = ltb mostBytes (length text)
 
-  -- an answer that meets the equation is this one
-  answer-is : (r : Reading) → answered r ≡ reading text c l → r ≡ cond long Over (limited (judgedOf text) c l)
+  -- what the text is read as
+  abbrev pub reads : Reading
+  reads = cond long Over (limited (judgedOf text) c l)
+
+  pub answered-reads : answered reads ≡ reading text c l
   unfolding reading
-  answer-is r e = answered-one r (cond long Over (limited (judgedOf text) c l)) (e ∙ by-test long)
+  answered-reads = by-test long
     where
-      by-test : (b : Bool) → cond b (answered Over) (answerOf (judgedOf text) c l) ≡ answered (cond b Over (limited (judgedOf text) c l))
+      by-test : (b : Bool) → answered (cond b Over (limited (judgedOf text) c l)) ≡ cond b (answered Over) (answerOf (judgedOf text) c l)
       by-test true = refl
-      by-test false = sym (answered-limited (judgedOf text) c l)
+      by-test false = answered-limited (judgedOf text) c l
+
+  -- an answer that meets the equation is this one
+  answer-is : (r : Reading) → answered r ≡ reading text c l → r ≡ reads
+  answer-is r e = answered-one r reads (e ∙ sym answered-reads)
 
   module _ (x : Program) where
     abbrev FewOf : Type 0
@@ -140,6 +147,9 @@ module _ (text : List ℕ) (c l : ℕ) where
     within-few : Within text c l x → FewOf
     within-few w = (w .few-rows, w .few-threads, w .room, w .places)
 
+    pub denoted-reads : Denotes text x → Within text c l x → reads ≡ Accepted (length (joined (threads x))) (length (threads x))
+    denoted-reads d w = rw (le-ltb mostBytes (length text) (w .bytes), denoted-judged text x d, few-enough _ _ c l (within-few w))
+
 -- a place where a text is refused stands in it, or at its end
 refused-inside : (text : List ℕ) (p : ℕ) → RefusedAt text p → p ≤ length text
 refused-inside text p k =
@@ -147,7 +157,7 @@ refused-inside text p k =
     rw (k .place) (rw z at (start-inside sizeOf pos most (k .before) text 0))
 
 -- what each answer means
-abbrev Stands : List ℕ → ℕ → ℕ → Reading → Type 0
+abbrev pub Stands : List ℕ → ℕ → ℕ → Reading → Type 0
 Stands text c l (Unfit p) = (length text ≤ mostBytes) × (p ≤ length text) × RefusedAt text p
 Stands text c l Over = (mostBytes < length text) ⊎ ((x : Program) × Denotes text x × ¬ Within text c l x)
 Stands text c l (Accepted m t) = (x : Program) × Denotes text x × Within text c l x
@@ -168,6 +178,9 @@ module _ (text : List ℕ) (c l : ℕ) where
   means true e = inl (ltb-true mostBytes (length text) e)
   means false e = means-limited (judgedOf text) refl (says text) (ltb-false mostBytes (length text) e)
 
+  pub reads-means : Stands text c l (reads text c l)
+  reads-means = means (ltb mostBytes (length text)) refl
+
 -- what is not accepted writes nothing
 unwritten : (r : Reading) → ((m t : ℕ) → ¬ (r ≡ Accepted m t)) → (new old : List ℕ) → written r new old ≡ old
 unwritten (Unfit p) n new old = refl
@@ -182,7 +195,7 @@ module _ (text commands lengths commands′ lengths′ : List ℕ) (r : Reading)
   l = length lengths
 
   meaning : Stands text c l r
-  meaning = subst (Stands text c l) (sym (answer-is text c l r e)) (means text c l (ltb mostBytes (length text)) refl)
+  meaning = subst (Stands text c l) (sym (answer-is text c l r e)) (reads-means text c l)
 
   short : length text ≤ mostBytes → r ≡ limited (judgedOf text) c l
   short h = answer-is text c l r e ∙ rw (le-ltb mostBytes (length text) h)
@@ -190,7 +203,7 @@ module _ (text commands lengths commands′ lengths′ : List ℕ) (r : Reading)
   module _ (rows : commands′ ≡ written r (rowNumbers text) commands) (lens : lengths′ ≡ written r (threadLengths text) lengths) where
     accepts : (x : Program) → Denotes text x → Within text c l x → Holds commands lengths commands′ lengths′ r x
     accepts x d w =
-        let q : r ≡ Accepted (length (joined (threads x))) (length (threads x)) = short (w .bytes) ∙ rw (denoted-judged text x d, few-enough _ _ c l (within-few text c l x w)) in
+        let q : r ≡ Accepted (length (joined (threads x))) (length (threads x)) = answer-is text c l r e ∙ denoted-reads text c l x d w in
         record {
           many = q;
           rows = rows ∙ ap (λ (z : Reading). written z (rowNumbers text) commands) q ∙ ap (λ (o : Outcome). over (flat (o .rows)) commands) (denoted-found text x d);

@@ -76,7 +76,7 @@ module _ (commands lengths : List ℕ) (relation generations : ℕ) where
 
 -- ---- which verdicts fill the rooms
 
-no-fill : (n : ℕ) → n ≢ 0 → n ≤ 9 → fills n ≡ false
+pub no-fill : (n : ℕ) → n ≢ 0 → n ≤ 9 → fills n ≡ false
 no-fill n a l = rw (ne-eqb n 0 a, ne-eqb n 10 (λ e. omega arith), ne-eqb n 11 (λ e. omega arith))
 
 fault-small : (ps qs : List Pair) → firstPair 10 ps (firstPair 11 qs (tell 0 0 0)) .number ≤ 11

@@ -1,0 +1,3 @@
+mod Scratch
+mod Tabled
+mod Texts

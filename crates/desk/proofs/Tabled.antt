@@ -1,0 +1,98 @@
+-- Two tables, judged by the schedule that was written for them. Assumes nothing.
+use mathlib.Core.Path.{_≡_, refl, sym, ap, _∙_}
+use mathlib.Core.Bool.{Bool, true, false, cond, true≢false}
+use mathlib.Core.Logic.{_≢_, by-cases}
+use mathlib.Core.List.{List, []}
+use Prim.Native.Nat.{ℕ, _*_, _≤_}
+use native.Mathlib.Omega.{arith}
+use native.Mathlib.Decide.{ℕ-discrete}
+use lib.ListN.{length, take, drop, replicate, length-append, length-replicate}
+use lib.Seq.{take-at}
+use borrow.Author.Tests.{eq-eqb, le-ltb}
+use Rattle.tables.specs.Limits.{mostRows, mostThreads}
+use Rattle.tables.specs.Rows.{rows}
+use Rattle.tables.specs.Rules.{checked}
+use Rattle.tables.specs.Verdicts.{tell, numbered}
+use Rattle.tables.proofs.Rules.{passes-zero, checked-small}
+use Rattle.relation.specs.Table.{width, words}
+use Rattle.replay.specs.declared.writer.Written.{Written}
+use Rattle.replay.specs.Doors.{Writes}
+use Rattle.tables.specs.declared.verdict.Told.{Told}
+use Rattle.replay.specs.Writer.{schedule, unwritten, Filled}
+use Rattle.review.specs.declared.judge.Finding.{Finding}
+use Rattle.review.specs.Agreement.{Reviewed}
+use Rattle.review.specs.Judge.{verdictOf, faultPairs, generations, reaches, fills}
+use Rattle.review.specs.Sheet.{sheetOf}
+use Rattle.review.proofs.Reviews.{no-fill}
+use Rattle.desk.specs.declared.conclusion.Conclusion.{Conclusion}
+use Rattle.desk.specs.Conclusion.{toldOf, pairsOf, ofTables, bare}
+use Rattle.desk.proofs.Scratch.{refused-checked}
+
+-- rooms of zeros are full ones
+pub full-numbers : length (replicate 1536 0) ≡ mostRows * 3
+unfolding mostRows
+full-numbers = length-replicate 1536 0
+
+pub full-threads : length (replicate 64 0) ≡ mostThreads
+unfolding mostThreads
+full-threads = length-replicate 64 0
+
+pub full-rows : length (replicate 512 0) ≡ mostRows
+unfolding mostRows
+full-rows = length-replicate 512 0
+
+pub full-words : length (replicate 8192 0) ≡ words mostRows
+unfolding mostRows width
+full-words = length-replicate 8192 0
+
+-- a full room is not refused
+roomy : (commands lengths : List ℕ) (room : ℕ) → checked commands lengths .number ≡ 0 → mostRows ≤ room → unwritten commands lengths room .number ≡ 0
+unfolding unwritten
+roomy commands lengths room e l =
+    rw (eq-eqb (checked commands lengths .number) 0 e, le-ltb room (rows commands) (omega (arith, passes-zero commands lengths e .few-rows)))
+
+-- what the writer left in a full room
+module _ {commands lengths before after : List ℕ} {w : Written} (W : Writes commands lengths before after w) (full : length before ≡ mostRows) where
+  filled : checked commands lengths .number ≡ 0 → Filled commands lengths before after (w .length)
+  filled e = W .wrote (ap (λ (t : Told). t .number) (W .verdict) ∙ roomy commands lengths (length before) e (omega arith))
+
+  pub steps-fit : length after ≡ length before → w .length ≤ length after
+  steps-fit s =
+      by-cases (ℕ-discrete (numbered (w .verdict) .number) 0)
+      (λ (e : numbered (w .verdict) .number ≡ 0).
+      let F = W .wrote e in
+      omega (arith, F .long, full, s, ap (λ (l : List ℕ). length l) (F .room), length-append (schedule commands lengths) (drop (w .length) before)))
+      (λ (n : numbered (w .verdict) .number ≢ 0). omega (arith, W .refused n .0))
+
+  pub steps-are : checked commands lengths .number ≡ 0 → take (w .length) after ≡ schedule commands lengths
+  steps-are e = let F = filled e in ap (λ (l : List ℕ). take (w .length) l) (F .room) ∙ take-at (schedule commands lengths) (drop (w .length) before) (w .length) (sym (F .long))
+
+-- what the review then found
+module _ {commands lengths σ relation room relation′ room′ : List ℕ} {f : Finding} (R : Reviewed commands lengths σ relation room f relation′ room′)
+    (wide : length relation ≡ words mostRows) (high : length room ≡ mostRows) {t : Told} (said : t ≡ numbered (f .verdict)) where
+  abbrev told-as : Conclusion
+  told-as = record { told = t; sheet = f .sheet }
+
+  agrees : numbered (f .verdict) ≡ toldOf commands lengths → (fills (toldOf commands lengths .number) ≡ true → f .sheet ≡ sheetOf (pairsOf commands lengths))
+      → told-as ≡ ofTables commands lengths
+  unfolding ofTables
+  agrees e p = by (fills (toldOf commands lengths .number)) refl
+    where
+      by : (b : Bool) → fills (toldOf commands lengths .number) ≡ b
+          → told-as ≡ cond b (record { told = toldOf commands lengths; sheet = sheetOf (pairsOf commands lengths) }) (bare (toldOf commands lengths))
+      by true q = let s = p q in cc
+      by false q = let s : f .sheet ≡ sheetOf [] = R .demand₁ .empty (ap (λ (u : Told). fills (u .number)) e ∙ q) in cc
+
+  pub concluded : (checked commands lengths .number ≡ 0 → σ ≡ schedule commands lengths) → told-as ≡ ofTables commands lengths
+  concluded s = by-cases (ℕ-discrete (checked commands lengths .number) 0) passed refused
+    where
+      passed : checked commands lengths .number ≡ 0 → told-as ≡ ofTables commands lengths
+      passed e =
+          let q = s e in
+          let v : numbered (f .verdict) ≡ toldOf commands lengths = R .demand₂ .verdict ∙ rw (wide, high, q) in
+          agrees v (λ p. R .demand₂ .sheet (ap (λ (u : Told). fills (u .number)) v ∙ p) ∙ rw q)
+      refused : checked commands lengths .number ≢ 0 → told-as ≡ ofTables commands lengths
+      refused n =
+          let q : toldOf commands lengths ≡ checked commands lengths = refused-checked commands lengths n (schedule commands lengths) (words mostRows) mostRows in
+          agrees (R .demand₂ .verdict ∙ refused-checked commands lengths n σ (length relation) (length room) ∙ sym q)
+          (λ p. absurd (true≢false (sym p ∙ rw q (no-fill (checked commands lengths .number) n (omega (arith, checked-small commands lengths))))))

@@ -1,0 +1,69 @@
+-- A text read into full tables, and what is concluded from it. Assumes nothing.
+use mathlib.Core.Path.{_≡_, refl, sym, ap, _∙_}
+use mathlib.Core.Logic.{_≢_}
+use mathlib.Core.List.{List, [], _∷_}
+use Prim.Native.Nat.{ℕ, _*_, _≤_}
+use native.Mathlib.Omega.{arith}
+use lib.ListN.{length, take, drop, length-append, length-map}
+use lib.Seq.{take-at}
+use borrow.Author.Tests.{eq-eqb, ne-eqb}
+use types.Run.{OneOf, miss}
+use denote.Enum.Declared
+use Rattle.tables.specs.Limits.{mostRows, mostThreads}
+use Rattle.tables.specs.Verdicts.{tell}
+use Rattle.tables.specs.declared.verdict.Told.{Told}
+use Rattle.spelling.specs.Machine.{flat, Outcome}
+use Rattle.spelling.specs.Over.{over}
+use Rattle.notation.specs.declared.reading.Reading.{Reading}
+use Rattle.notation.specs.declared.reading.Reading.the-variants.{Unfit, Over, Accepted}
+use Rattle.notation.specs.Grammar.{Command, rowOf, joined, threads, programRows, programLengths}
+use Rattle.notation.specs.Reading.{rowNumbers, threadLengths, Answer, answered, reading}
+use Rattle.notation.specs.Promise.{Read}
+use Rattle.notation.proofs.Passes.{flat-long}
+use Rattle.notation.proofs.Readings.{denoted-found}
+use Rattle.notation.proofs.reading.Reading as R
+use Rattle.review.specs.declared.sheet.Sheet.{Sheet}
+use Rattle.review.specs.Sheet.{sheetOf}
+use Rattle.desk.specs.declared.conclusion.Conclusion.{Conclusion}
+use Rattle.desk.specs.Conclusion.{ofTables, readAs, ofText, bare}
+
+not-accepted : (r : Reading) → OneOf (0 ∷ 1 ∷ []) (Declared.tagOf R.the-type r) → answered r .told .number ≢ 0
+not-accepted (Unfit p) h = λ e. omega arith
+not-accepted Over h = λ e. omega arith
+not-accepted (Accepted m t) h = absurd (miss (0 ∷ 1 ∷ []) 2 tt h)
+
+module _ {text commands lengths commands′ lengths′ : List ℕ} {r : Reading} (reads : Read text commands lengths commands′ lengths′ r)
+    (wide : length commands ≡ mostRows * 3) (high : length lengths ≡ mostThreads) where
+  told-as : answered r .told ≡ readAs text
+  told-as = ap (λ (a : Answer). a .told) (reads .answers ∙ rw (wide, high))
+
+  pub refused-text : OneOf (0 ∷ 1 ∷ []) (Declared.tagOf R.the-type r) → {t : Told} → t ≡ answered r .told → {s : Sheet} → s ≡ sheetOf []
+      → _≡_ {A = Conclusion} (record { told = t; sheet = s }) (ofText text)
+  unfolding ofText
+  refused-text h {t} e {s} q =
+      let n : readAs text .number ≢ 0 = rw (sym told-as) (not-accepted r h) in
+      let p : t ≡ readAs text = e ∙ told-as in
+      let z : _≡_ {A = Conclusion} (record { told = t; sheet = s }) (bare (readAs text)) = cc in
+      rw (ne-eqb (readAs text .number) 0 n) z
+
+  module _ {m t : ℕ} (is : r ≡ Accepted m t) where
+    -- the program's tables stand first in the rooms
+    stand : (take (m * 3) commands′ ≡ rowNumbers text) × (take t lengths′ ≡ threadLengths text) × (m * 3 ≤ length commands′) × (t ≤ length lengths′) × (m ≤ mostRows)
+    stand =
+        let (x, d, w) = reads .by-grammar .accepted m t is in
+        let h = reads .by-grammar .accepts x d w in
+        let f = denoted-found text x d in
+        ?
+
+    pub rows-read : take (m * 3) commands′ ≡ rowNumbers text
+    rows-read = stand .0
+
+    pub lengths-read : take t lengths′ ≡ threadLengths text
+    lengths-read = stand .1
+
+    pub accepted-text : {k : Conclusion} → k ≡ ofTables (take (m * 3) commands′) (take t lengths′) → k ≡ ofText text
+    unfolding ofText
+    accepted-text {k} e =
+        let z : readAs text .number ≡ 0 = ap (λ (a : Told). a .number) (sym told-as) ∙ ap (λ (q : Reading). answered q .told .number) is in
+        let p : k ≡ ofTables (rowNumbers text) (threadLengths text) = e ∙ rw (rows-read, lengths-read) in
+        rw (eq-eqb (readAs text .number) 0 z) p
