@@ -2,7 +2,7 @@
 -- The code's loops and tests: Fronts, Scans, Registering, Steps, Endings, Refusals.
 -- The kept state and the machine of `schedules`: Programs (the tables as a program with threads), Phases and Waits (what kept barriers and waits
 -- stand for), Few (how long a schedule is), Ties (the two states beside each other), Tied (one step of both), Standing and Replaying (what loops need).
--- Whole schedules: Plays (a replay), Judged (what is told of it), Schedules (legal, complete and clean are the same for both), Writing (the schedule writer), Precede (what stands
+-- Whole schedules: Plays (a replay), Judged (what is told of it), Places (where that stands), Schedules (legal, complete and clean are the same for both), Writing (the schedule writer), Precede (what stands
 -- before what), Agreements, Unique (the doors have one answer each).
 pub mod Fronts
 pub mod Scans
@@ -20,6 +20,7 @@ pub mod Standing
 pub mod Replaying
 pub mod Plays
 pub mod Judged
+pub mod Places
 pub mod Schedules
 pub mod Writing
 pub mod Precede

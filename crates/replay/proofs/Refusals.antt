@@ -1,8 +1,9 @@
 -- Verdicts in the order tested: the first that is not 0 is told, and tables that are told 0 pass. Assumes nothing.
-use mathlib.Core.Path.{_≡_, sym, ap, _∙_}
-use mathlib.Core.Logic.{_≢_}
+use mathlib.Core.Path.{_≡_, sym, ap, _∙_, subst}
+use mathlib.Core.Logic.{by-cases, _≢_}
 use mathlib.Core.List.{List}
 use Prim.Native.Nat.{ℕ, _≤_, _<_}
+use native.Mathlib.Decide.{ℕ-discrete}
 use borrow.Author.Tests.{eq-eqb, ne-eqb, lt-ltb, le-ltb}
 use Rattle.tables.specs.Rows.{rows}
 use Rattle.tables.specs.Rules.{Keeps, checked}
@@ -19,6 +20,12 @@ or-first a b n = rw (ne-eqb (a .number) 0 n)
 
 pub or-second : (a b : Told) → a .number ≡ 0 → b ≡ orElse a b
 or-second a b e = rw (eq-eqb (a .number) 0 e)
+
+-- what holds of the first, and of the second where the first is 0, holds of what is told
+pub or-either : (P : Told → Type 0) (a b : Told) → P a → (a .number ≡ 0 → P b) → P (orElse a b)
+or-either P a b p q =
+    by-cases (ℕ-discrete (a .number) 0) (λ (e : a .number ≡ 0). subst P (or-second a b e) (q e))
+    (λ (n : a .number ≢ 0). subst P (or-first a b n) p)
 
 -- a verdict v of which `told` was said
 module _ (v : Verdict) {told : Told} (said : told ≡ numbered v) where

@@ -52,7 +52,7 @@ module _ (commands lengths : List ℕ) (relation generations : ℕ) where
   small-rooms false true = omega arith
   small-rooms false false = omega arith
 
-  refused-small : refused commands lengths relation generations .number ≤ 4
+  pub refused-small : refused commands lengths relation generations .number ≤ 4
   unfolding refused
   refused-small =
       by-cases (ℕ-discrete (checked commands lengths .number) 0)
@@ -79,7 +79,7 @@ module _ (commands lengths : List ℕ) (relation generations : ℕ) where
 pub no-fill : (n : ℕ) → n ≢ 0 → n ≤ 9 → fills n ≡ false
 no-fill n a l = rw (ne-eqb n 0 a, ne-eqb n 10 (λ e. omega arith), ne-eqb n 11 (λ e. omega arith))
 
-fault-small : (ps qs : List Pair) → firstPair 10 ps (firstPair 11 qs (tell 0 0 0)) .number ≤ 11
+pub fault-small : (ps qs : List Pair) → firstPair 10 ps (firstPair 11 qs (tell 0 0 0)) .number ≤ 11
 fault-small (p ∷ ps) qs = omega arith
 fault-small [] (q ∷ qs) = omega arith
 fault-small [] [] = omega arith

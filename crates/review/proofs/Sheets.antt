@@ -100,6 +100,12 @@ module _ (found : ℕ → Bool) (to : ℕ → Pair) where
 -- ---- the rows one after the other
 
 module _ (found : ℕ → ℕ → Bool) (to : ℕ → ℕ → Pair) (m : ℕ) where
+  pub all-length : (n : ℕ) → length (allRows found to m n) ≤ n * m
+  unfolding allRows
+  all-length zero = omega arith
+  all-length (suc n) =
+      omega (arith, length-append (allRows found to m n) (alongRow (found n) (to n) m), all-length n, row-length (found n) (to n) m, suc-mul n m)
+
   pub all-none : (s : Sheet) → s ≡ addAll s (allRows found to m 0)
   unfolding addAll allRows
   all-none s = refl

@@ -1,0 +1,108 @@
+-- Where a verdict stands: no number of its place is above the limit of rows. And what is told of a legal complete schedule. Assumes nothing.
+use mathlib.Core.Path.{_≡_, refl}
+use mathlib.Core.Logic.{_≢_}
+use mathlib.Core.Bool.{Bool, true, false, cond, not}
+use mathlib.Core.List.{List, [], reverse}
+use Prim.Native.Nat.{ℕ, _%_, _≤_, _<_}
+use native.Mathlib.Omega.{arith}
+use lib.Dec.{eqb, ltb}
+use lib.ListN.{length, length-reverse}
+use borrow.Author.Tests.{ltb-false}
+use Rattle.tables.specs.Limits.{mostRows, barriers}
+use Rattle.tables.specs.Rows.{rows}
+use Rattle.tables.specs.Rules.{Keeps, badCommands, badLengths, firstBad, checked}
+use Rattle.tables.specs.Verdicts.{tell}
+use Rattle.tables.specs.declared.verdict.Told.{Told}
+use Rattle.tables.proofs.Lowest.{lowest-first, lowest-hit}
+use Rattle.tables.proofs.Rows.{end-most}
+use Rattle.tables.proofs.Rules.{first-bad}
+use Rattle.relation.proofs.Truth.{clashing, isnt, right}
+use Rattle.schedules.proofs.Threads.{stand}
+use Rattle.replay.specs.declared.state.Replay.{Replay}
+use Rattle.replay.specs.Step.{allowed}
+use Rattle.replay.specs.Ending.{isBlocked, barrierSet, lowestAllowed, lowestBlocked, lowestSet, lastRun, ended, judged}
+use Rattle.replay.specs.Replay.{played}
+use Rattle.replay.specs.Schedules.{stateAfter, Complete, stopped, mismatched}
+use Rattle.replay.proofs.Programs.{threads}
+use Rattle.replay.proofs.Few.{legal-few}
+use Rattle.replay.proofs.Ties.{Stands, command-is, command-row}
+use Rattle.replay.proofs.Plays.{Ends, through, refused-at, mismatched-at, plays-all}
+
+pub record Placed (t : Told) : Type 0 where
+  pub place : t .place ≤ mostRows
+  pub also : t .also ≤ mostRows
+
+pub placed : (n p : ℕ) → p ≤ mostRows → Placed (tell n p 0)
+placed n p l = record { place = l; also = omega arith }
+
+-- ---- 1 to 3: a bad row is one of not too many
+
+bad-placed : (a b d : Bool) (i : ℕ) → (a ≡ false → i ≤ mostRows) → Placed (cond a (tell 1 0 0) (cond b (tell 2 0 0) (cond d (tell 3 i 0) (tell 0 0 0))))
+bad-placed true b d i h = placed 1 0 (omega arith)
+bad-placed false true d i h = placed 2 0 (omega arith)
+bad-placed false false true i h = placed 3 i (h refl)
+bad-placed false false false i h = placed 0 0 (omega arith)
+
+pub checked-placed : (commands lengths : List ℕ) → Placed (checked commands lengths)
+unfolding checked
+checked-placed commands lengths =
+    bad-placed (badCommands commands) (badLengths commands lengths) (ltb (firstBad commands) (rows commands)) (firstBad commands)
+    (λ e. omega (arith, first-bad commands .at-most, ltb-false mostRows (rows commands) (isnt _ (λ t. clashing (right (not (eqb (length commands % 3) 0)) _ t) e))))
+
+-- ---- 6, 8 and 9: the steps that ran, a command that ran, a barrier
+
+end-placed : (a b d : Bool) (p q r : ℕ) → p ≤ mostRows → (b ≡ true → q ≤ mostRows) → r ≤ mostRows
+    → Placed (cond a (tell 6 p 0) (cond b (tell 8 q 0) (cond d (tell 9 r 0) (tell 0 0 0))))
+end-placed true b d p q r hp hq hr = placed 6 p hp
+end-placed false true d p q r hp hq hr = placed 8 q (hq refl)
+end-placed false false true p q r hp hq hr = placed 9 r hr
+end-placed false false false p q r hp hq hr = placed 0 0 (omega arith)
+
+few-barriers : barriers ≤ mostRows
+unfolding barriers mostRows
+few-barriers = omega arith
+
+module _ {commands lengths : List ℕ} (K : Keeps commands lengths) where
+  -- a thread's next command is at most the end of its rows
+  last-placed : {υ : List ℕ} {s : Replay} → Stands K υ s → (t : ℕ) → t < length lengths → lastRun lengths s t ≤ mostRows
+  last-placed {υ} S t l =
+      omega (arith, command-is K S t l, stand (threads K) υ (S .legal) .range t l .1, end-most lengths t, K .adds-up, K .few-rows)
+
+  ended-placed : {υ : List ℕ} {s : Replay} → Stands K υ s → (n : ℕ) → n ≤ mostRows → Placed (ended lengths s n)
+  unfolding ended
+  ended-placed {s = s} S n few =
+      end-placed (ltb (lowestAllowed lengths s) (length lengths)) (ltb (lowestBlocked lengths s) (length lengths)) (ltb (lowestSet s) barriers)
+      n (lastRun lengths s (lowestBlocked lengths s)) (lowestSet s) few
+      (λ e. last-placed S (lowestBlocked lengths s) (lowest-hit (isBlocked s) (length lengths) e .0))
+      (omega (arith, lowest-first (barrierSet s) barriers .at-most, few-barriers))
+
+  -- ---- 5 to 9: each step that ran is another command
+
+  steps-placed : (ρ : List ℕ) {s : Replay} → Stands K (reverse ρ) s → length ρ ≤ mostRows
+  steps-placed ρ S = omega (arith, legal-few K (reverse ρ) (S .legal), length-reverse ρ, K .few-rows)
+
+  pub judged-placed : (σ : List ℕ) → Placed (judged lengths (played commands lengths σ))
+  unfolding judged
+  judged-placed σ = by (plays-all K σ)
+    where
+      by : Ends K σ [] (played commands lengths σ) 0 → Placed (judged lengths (played commands lengths σ))
+      by (through S G v e) = rw v (ended-placed S (played commands lengths σ .steps) (omega (arith, e, steps-placed σ S)))
+      by (refused-at e nay v) = rw v (placed 5 (played commands lengths σ .steps) (omega (arith, e .steps, steps-placed (e .ρ) (e .stands))))
+      by (mismatched-at e st m v) = rw v (placed 7 _ (omega (arith, command-row K (e .stands) (e .t) st, K .few-rows)))
+
+-- ---- a legal complete schedule is told neither 5 nor 6
+
+neither : (a b d : Bool) (p q r : ℕ) → a ≡ false → let n = cond a (tell 6 p 0) (cond b (tell 8 q 0) (cond d (tell 9 r 0) (tell 0 0 0))) .number in (n ≢ 5) × (n ≢ 6)
+neither true b d p q r e = clashing refl e
+neither false true d p q r e = ((λ z. omega arith), (λ z. omega arith))
+neither false false true p q r e = ((λ z. omega arith), (λ z. omega arith))
+neither false false false p q r e = ((λ z. omega arith), (λ z. omega arith))
+
+pub complete-told : {commands lengths : List ℕ} → Keeps commands lengths → (σ : List ℕ) → Complete commands lengths σ
+    → (judged lengths (played commands lengths σ) .number ≢ 5) × (judged lengths (played commands lengths σ) .number ≢ 6)
+unfolding judged ended
+complete-told {commands} {lengths} K σ (stopped c stop) =
+    let s = stateAfter commands lengths σ in
+    rw c (neither (ltb (lowestAllowed lengths s) (length lengths)) (ltb (lowestBlocked lengths s) (length lengths)) (ltb (lowestSet s) barriers) _ _ _
+    (isnt _ (λ e. clashing (lowest-hit (allowed lengths s) (length lengths) e .1) (stop (lowestAllowed lengths s)))))
+complete-told {commands} {lengths} K σ (mismatched v _) = rw v ((λ z. omega arith), (λ z. omega arith))

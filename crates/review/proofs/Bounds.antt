@@ -1,0 +1,226 @@
+-- How large the numbers of a review's answer are, and what is told in rooms for the longest tables. Assumes nothing.
+use mathlib.Core.Path.{_≡_, sym, _∙_, subst}
+use mathlib.Core.Logic.{by-cases, ⊎-elim, _≢_}
+use mathlib.Core.Bool.{Bool, true, false, cond}
+use mathlib.Core.List.{List, [], _∷_}
+use Prim.Native.Nat.{ℕ, zero, suc, _*_, _≤_, _<_}
+use native.Mathlib.Decide.{ℕ-discrete}
+use native.Mathlib.Nat.{mul-le-mul}
+use native.Mathlib.Omega.{arith}
+use lib.Dec.{ltb}
+use lib.ListN.{length, getD}
+use borrow.Author.Tests.{le-ltb}
+use Rattle.tables.specs.Limits.{mostRows}
+use Rattle.tables.specs.Rows.{rows}
+use Rattle.tables.specs.Rules.{Keeps, checked}
+use Rattle.tables.specs.Verdicts.{tell, numbered}
+use Rattle.tables.specs.declared.verdict.Told.{Told}
+use Rattle.tables.proofs.Rules.{passes-zero}
+use Rattle.relation.specs.Table.{width, words}
+use Rattle.relation.proofs.Truth.{clashing, split}
+use Rattle.replay.specs.InOrder.{orElse}
+use Rattle.replay.specs.Replay.{played}
+use Rattle.replay.specs.Ending.{judged}
+use Rattle.replay.proofs.Refusals.{or-first, or-second, or-either}
+use Rattle.replay.proofs.Judged.{judged-small}
+use Rattle.replay.proofs.Places.{Placed, placed, checked-placed, judged-placed}
+use Rattle.review.specs.declared.sheet.Pair.{Pair}
+use Rattle.review.specs.declared.sheet.Sheet.{Sheet}
+use Rattle.review.specs.declared.faults.Fault.{Fault}
+use Rattle.review.specs.declared.faults.Fault.the-variants.{Reuse, Race}
+use Rattle.review.specs.declared.judge.Finding.{Finding}
+use Rattle.review.specs.Faults.{faulty, pairOf, faults}
+use Rattle.review.specs.Sheet.{mostKept, pair, firsts, sheetOf}
+use Rattle.review.specs.Judge.{shortRooms, refused, firstPair, orPairs, faultTold, faultPairs, generations, reaches, verdictOf, fills}
+use Rattle.review.specs.Agreement.{number, Reviewed}
+use Rattle.review.proofs.Sheets.{all-length}
+use Rattle.review.proofs.Pairs.{in-order}
+use Rattle.review.proofs.Reviews.{admitted, refused-small, no-fill, fault-small}
+
+-- ---- pairs: no number is above the limit of rows
+
+abbrev pub Low : Pair → Type 0
+Low p = (p .first ≤ mostRows) × (p .second ≤ mostRows)
+
+abbrev AllLow : List Pair → Type 0
+AllLow ps = (k : ℕ) → k < length ps → Low (getD ps k (pair 0 0))
+
+none-low : Low (pair 0 0)
+none-low = (omega arith, omega arith)
+
+pair-low : (f : Fault) (i j : ℕ) → i ≤ mostRows → j ≤ mostRows → Low (pairOf f i j)
+pair-low Reuse i j li lj = (lj, li)
+pair-low Race i j li lj = (li, lj)
+
+or-low : (ps qs : List Pair) → AllLow ps → AllLow qs → AllLow (orPairs ps qs)
+or-low [] qs h g = g
+or-low (p ∷ ps) qs h g = h
+
+-- unused places of a sheet are 0
+firsts-low : (n : ℕ) (ps : List Pair) → AllLow ps → (k : ℕ) → k < n → Low (getD (firsts n ps) k (pair 0 0))
+unfolding firsts
+firsts-low zero ps h k l = absurd (omega arith)
+firsts-low (suc n) [] h zero l = none-low
+firsts-low (suc n) [] h (suc k) l = firsts-low n [] h k (omega arith)
+firsts-low (suc n) (p ∷ ps) h zero l = h 0 (omega arith)
+firsts-low (suc n) (p ∷ ps) h (suc k) l = firsts-low n ps (λ i m. h (suc i) (omega arith)) k (omega arith)
+
+first-placed : (n : ℕ) (ps : List Pair) (t : Told) → AllLow ps → Placed t → Placed (firstPair n ps t)
+first-placed n [] t h d = d
+first-placed n (p ∷ ps) t h d = let (a, b) = h 0 (omega arith) in record { place = a; also = b }
+
+or-few : (n : ℕ) (ps qs : List Pair) → length ps ≤ n → length qs ≤ n → length (orPairs ps qs) ≤ n
+or-few n [] qs h g = g
+or-few n (p ∷ ps) qs h g = h
+
+-- ---- the faults of tables that pass
+
+module _ {commands lengths : List ℕ} (K : Keeps commands lengths) (g : ℕ → ℕ) (ρ : ℕ → ℕ → Bool) where
+  faults-low : (f : Fault) → AllLow (faults commands lengths g ρ f)
+  faults-low f k l =
+      let F = in-order commands lengths g ρ f in
+      let (i, j, li, lj, t, q) = F .only k l in
+      let e : getD (faults commands lengths g ρ f) k (pair 0 0) ≡ pairOf f i j = rw q at (F .there i j li lj t .1) in
+      subst Low (sym e) (pair-low f i j (omega (arith, K .few-rows)) (omega (arith, K .few-rows)))
+
+  faults-few : (f : Fault) → length (faults commands lengths g ρ f) ≤ mostRows * mostRows
+  unfolding faults
+  faults-few f =
+      let l = all-length (faulty commands lengths g ρ f) (pairOf f) (rows commands) (rows commands) in
+      let m : rows commands * rows commands ≤ mostRows * mostRows = mul-le-mul (K .few-rows) (K .few-rows) in
+      omega arith
+
+  fault-placed : Placed (faultTold commands lengths g ρ)
+  fault-placed =
+      first-placed 10 (faults commands lengths g ρ Reuse) _ (faults-low Reuse)
+      (first-placed 11 (faults commands lengths g ρ Race) _ (faults-low Race) (placed 0 0 (omega arith)))
+
+-- ---- the verdict
+
+some-rows : 1 ≤ mostRows
+unfolding mostRows
+some-rows = omega arith
+
+short-placed : (a b : Bool) → Placed (cond a (tell 4 0 0) (cond b (tell 4 1 0) (tell 0 0 0)))
+short-placed true b = placed 4 0 (omega arith)
+short-placed false true = placed 4 1 some-rows
+short-placed false false = placed 0 0 (omega arith)
+
+module _ (commands lengths σ : List ℕ) (relation room : ℕ) where
+  abbrev told : Told
+  told = verdictOf commands lengths σ relation room
+
+  abbrev found : Fault → List Pair
+  found = faults commands lengths (generations commands lengths σ) (reaches commands lengths σ)
+
+  abbrev pairs : List Pair
+  pairs = faultPairs commands lengths (generations commands lengths σ) (reaches commands lengths σ)
+
+  -- it is a refusal, or is told of tables that pass
+  told-either : (P : Told → Type 0) → P (refused commands lengths relation room) → (Keeps commands lengths → P (judged lengths (played commands lengths σ)))
+      → (Keeps commands lengths → P (faultTold commands lengths (generations commands lengths σ) (reaches commands lengths σ))) → P told
+  unfolding verdictOf
+  told-either P r j f =
+      or-either P (refused commands lengths relation room) _ r
+      (λ z. let K = admitted commands lengths relation room z .keeps in or-either P (judged lengths (played commands lengths σ)) _ (j K) (λ _. f K))
+
+  refused-placed : Placed (refused commands lengths relation room)
+  unfolding refused
+  refused-placed =
+      or-either Placed (checked commands lengths) _ (checked-placed commands lengths)
+      (λ _. short-placed (ltb relation (words (rows commands))) (ltb room (rows commands)))
+
+  told-placed : Placed told
+  told-placed = told-either Placed refused-placed (λ K. judged-placed K σ) (λ K. fault-placed K _ _)
+
+  pub place-small : told .place ≤ mostRows
+  place-small = told-placed .place
+
+  pub also-small : told .also ≤ mostRows
+  also-small = told-placed .also
+
+  pub number-small : told .number ≤ 11
+  number-small =
+      told-either (λ t. t .number ≤ 11) (omega (arith, refused-small commands lengths relation room)) (λ K. omega (arith, judged-small K σ))
+      (λ K. fault-small (found Reuse) (found Race))
+
+  -- what fills the rooms is told of tables that pass
+  pub filled-keeps : fills (told .number) ≡ true → Keeps commands lengths
+  filled-keeps = told-either (λ t. fills (t .number) ≡ true → Keeps commands lengths) by (λ K _. K) (λ K _. K)
+    where
+      by : fills (refused commands lengths relation room .number) ≡ true → Keeps commands lengths
+      by f =
+          by-cases (ℕ-discrete (refused commands lengths relation room .number) 0)
+          (λ (z : refused commands lengths relation room .number ≡ 0). admitted commands lengths relation room z .keeps)
+          (λ (n : refused commands lengths relation room .number ≢ 0).
+          clashing f (no-fill _ n (omega (arith, refused-small commands lengths relation room))))
+
+  module _ (f : fills (told .number) ≡ true) where
+    pairs-low : AllLow pairs
+    pairs-low = let K = filled-keeps f in or-low (found Reuse) (found Race) (faults-low K _ _ Reuse) (faults-low K _ _ Race)
+
+    pub pairs-few : length pairs ≤ mostRows * mostRows
+    pairs-few = let K = filled-keeps f in or-few _ (found Reuse) (found Race) (faults-few K _ _ Reuse) (faults-few K _ _ Race)
+
+    pub pairs-small : (k : ℕ) → k < mostKept → Low (getD (sheetOf pairs .pairs) k (pair 0 0))
+    unfolding sheetOf
+    pairs-small = firsts-low mostKept pairs pairs-low
+
+-- ---- the finding
+
+pub record Small (r : Finding) : Type 0 where
+  pub place : numbered (r .verdict) .place ≤ mostRows
+  pub also : numbered (r .verdict) .also ≤ mostRows
+  pub total : r .sheet .total ≤ mostRows * mostRows
+  pub pairs : (k : ℕ) → k < mostKept → Low (getD (r .sheet .pairs) k (pair 0 0))
+
+abbrev Fits : Sheet → Type 0
+Fits s = (s .total ≤ mostRows * mostRows) × ((k : ℕ) → k < mostKept → Low (getD (s .pairs) k (pair 0 0)))
+
+empty-fits : Fits (sheetOf [])
+unfolding sheetOf
+empty-fits = (omega arith, firsts-low mostKept [] (λ k l. none-low))
+
+pub finding-small : {commands lengths σ relation room : List ℕ} {r : Finding} {relation′ room′ : List ℕ}
+    → Reviewed commands lengths σ relation room r relation′ room′ → Small r
+unfolding sheetOf
+finding-small {commands} {lengths} {σ} {relation} {room} {r} R =
+    let e = R .demand₂ .verdict in
+    let P = subst Placed (sym e) (told-placed commands lengths σ (length relation) (length room)) in
+    let (t, p) = ⊎-elim by (λ f. subst Fits (sym (R .demand₁ .empty f)) empty-fits) (split (fills (number r))) in
+    record { place = P .place; also = P .also; total = t; pairs = p }
+  where
+    by : fills (number r) ≡ true → Fits (r .sheet)
+    by f =
+        let h : fills (verdictOf commands lengths σ (length relation) (length room) .number) ≡ true = subst (λ (t : Told). fills (t .number) ≡ true) (R .demand₂ .verdict) f in
+        subst Fits (sym (R .demand₂ .sheet f))
+        (pairs-few commands lengths σ (length relation) (length room) h, pairs-small commands lengths σ (length relation) (length room) h)
+
+-- ---- rooms for the longest tables
+
+words-most : (m : ℕ) → m ≤ mostRows → words m ≤ words mostRows
+unfolding width
+words-most m l = mul-le-mul l (omega arith)
+
+module _ (commands lengths : List ℕ) where
+  -- have room for all that pass
+  pub full-rooms : checked commands lengths .number ≡ 0 → refused commands lengths (words mostRows) mostRows ≡ tell 0 0 0
+  unfolding refused
+  full-rooms e =
+      let few = passes-zero commands lengths e .few-rows in
+      sym (or-second (checked commands lengths) (shortRooms (rows commands) (words mostRows) mostRows) e)
+      ∙ rw (le-ltb _ _ (words-most (rows commands) few), le-ltb _ _ few)
+
+  -- where the check refuses tables, nothing else is told
+  pub refused-checked : checked commands lengths .number ≢ 0 → (σ : List ℕ) (relation room : ℕ) → verdictOf commands lengths σ relation room ≡ checked commands lengths
+  unfolding verdictOf refused
+  refused-checked n σ relation room =
+      let e = or-first (checked commands lengths) (shortRooms (rows commands) relation room) n in
+      rw (sym e) (sym (or-first (checked commands lengths) _ n))
+
+  -- and tables that pass are judged by their schedule
+  pub passed-told : checked commands lengths .number ≡ 0 → (σ : List ℕ)
+      → verdictOf commands lengths σ (words mostRows) mostRows
+      ≡ orElse (judged lengths (played commands lengths σ)) (faultTold commands lengths (generations commands lengths σ) (reaches commands lengths σ))
+  unfolding verdictOf
+  passed-told e σ = rw (full-rooms e)
