@@ -1,3 +1,2 @@
-mod Scratch
 mod Tabled
 mod Texts

@@ -24,26 +24,26 @@ use Rattle.review.specs.Agreement.{Reviewed}
 use Rattle.review.specs.Judge.{verdictOf, faultPairs, generations, reaches, fills}
 use Rattle.review.specs.Sheet.{sheetOf}
 use Rattle.review.proofs.Reviews.{no-fill}
+use Rattle.review.proofs.Bounds.{refused-checked}
 use Rattle.desk.specs.declared.conclusion.Conclusion.{Conclusion}
 use Rattle.desk.specs.Conclusion.{toldOf, pairsOf, ofTables, bare}
-use Rattle.desk.proofs.Scratch.{refused-checked}
 
 -- rooms of zeros are full ones
-pub full-numbers : length (replicate 1536 0) ≡ mostRows * 3
+pub full-numbers : length {A = ℕ} (replicate 1536 0) ≡ mostRows * 3
 unfolding mostRows
-full-numbers = length-replicate 1536 0
+full-numbers = length-replicate {A = ℕ} 1536 0
 
-pub full-threads : length (replicate 64 0) ≡ mostThreads
+pub full-threads : length {A = ℕ} (replicate 64 0) ≡ mostThreads
 unfolding mostThreads
-full-threads = length-replicate 64 0
+full-threads = length-replicate {A = ℕ} 64 0
 
-pub full-rows : length (replicate 512 0) ≡ mostRows
+pub full-rows : length {A = ℕ} (replicate 512 0) ≡ mostRows
 unfolding mostRows
-full-rows = length-replicate 512 0
+full-rows = length-replicate {A = ℕ} 512 0
 
-pub full-words : length (replicate 8192 0) ≡ words mostRows
+pub full-words : length {A = ℕ} (replicate 8192 0) ≡ words mostRows
 unfolding mostRows width
-full-words = length-replicate 8192 0
+full-words = length-replicate {A = ℕ} 8192 0
 
 -- a full room is not refused
 roomy : (commands lengths : List ℕ) (room : ℕ) → checked commands lengths .number ≡ 0 → mostRows ≤ room → unwritten commands lengths room .number ≡ 0

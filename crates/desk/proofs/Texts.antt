@@ -19,8 +19,8 @@ use Rattle.notation.specs.declared.reading.Reading.the-variants.{Unfit, Over, A
 use Rattle.notation.specs.Grammar.{Command, rowOf, joined, threads, programRows, programLengths}
 use Rattle.notation.specs.Reading.{rowNumbers, threadLengths, Answer, answered, reading}
 use Rattle.notation.specs.Promise.{Read}
-use Rattle.notation.proofs.Passes.{flat-long}
 use Rattle.notation.proofs.Readings.{denoted-found}
+use Rattle.notation.proofs.Tabled.{program-long}
 use Rattle.notation.proofs.reading.Reading as R
 use Rattle.review.specs.declared.sheet.Sheet.{Sheet}
 use Rattle.review.specs.Sheet.{sheetOf}
@@ -35,7 +35,7 @@ not-accepted (Accepted m t) h = absurd (miss (0 ∷ 1 ∷ []) 2 tt h)
 module _ {text commands lengths commands′ lengths′ : List ℕ} {r : Reading} (reads : Read text commands lengths commands′ lengths′ r)
     (wide : length commands ≡ mostRows * 3) (high : length lengths ≡ mostThreads) where
   told-as : answered r .told ≡ readAs text
-  told-as = ap (λ (a : Answer). a .told) (reads .answers ∙ rw (wide, high))
+  told-as = ap (λ (a : Answer). a .told) (reads .answers) ∙ rw (wide, high)
 
   pub refused-text : OneOf (0 ∷ 1 ∷ []) (Declared.tagOf R.the-type r) → {t : Told} → t ≡ answered r .told → {s : Sheet} → s ≡ sheetOf []
       → _≡_ {A = Conclusion} (record { told = t; sheet = s }) (ofText text)
@@ -53,7 +53,26 @@ module _ {text commands lengths commands′ lengths′ : List ℕ} {r : Reading}
         let (x, d, w) = reads .by-grammar .accepted m t is in
         let h = reads .by-grammar .accepts x d w in
         let f = denoted-found text x d in
-        ?
+        let q : Accepted (length (joined (threads x))) (length (threads x)) ≡ Accepted m t = sym (h .many) ∙ is in
+        let i : length (joined (threads x)) ≡ m = cc in
+        let j : length (threads x) ≡ t = cc in
+        let a : rowNumbers text ≡ flat (programRows x) = ap (λ (o : Outcome). flat (o .rows)) f in
+        let b : threadLengths text ≡ programLengths x = ap (λ (o : Outcome). o .lengths) f in
+        let u : length (flat (programRows x)) ≡ m * 3 = omega (arith, program-long x) in
+        let v : length (programLengths x) ≡ t = length-map (threads x) (λ (w : List Command). length w) ∙ j in
+        (ap (λ (l : List ℕ). take (m * 3) l) (h .rows) ∙ take-at (flat (programRows x)) _ (m * 3) u ∙ sym a,
+        ap (λ (l : List ℕ). take t l) (h .lens) ∙ take-at (programLengths x) _ t v ∙ sym b,
+        omega (arith, ap (λ (l : List ℕ). length l) (h .rows), length-append (flat (programRows x)) (drop (length (flat (programRows x))) commands)),
+        omega (arith, ap (λ (l : List ℕ). length l) (h .lens), length-append (programLengths x) (drop (length (programLengths x)) lengths)), omega (arith, w .few-rows))
+
+    pub few-rows : m ≤ mostRows
+    few-rows = stand .4
+
+    pub numbers-fit : m * 3 ≤ length commands′
+    numbers-fit = stand .2
+
+    pub threads-fit : t ≤ length lengths′
+    threads-fit = stand .3
 
     pub rows-read : take (m * 3) commands′ ≡ rowNumbers text
     rows-read = stand .0
