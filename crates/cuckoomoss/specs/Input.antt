@@ -1,0 +1,11 @@
+-- What the contracts of `input` cite.
+use mathlib.Core.List.{List}
+use Prim.Native.Nat.{ℕ}
+use Rattle.io.specs.Counts.{Counts}
+use Rattle.cuckoomoss.specs.declared.input.Came.{Came}
+use Rattle.cuckoomoss.specs.declared.input.Came.the-variants.{Bytes, Failed}
+
+-- bytes that came stand at the start of the room
+abbrev pub Within : Came → List ℕ → Type 0
+Within (Bytes n) room = Counts n room
+Within Failed room = Unit {0}
