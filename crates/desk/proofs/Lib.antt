@@ -1,2 +1,3 @@
 mod Tabled
 mod Texts
+mod Demands
