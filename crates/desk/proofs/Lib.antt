@@ -1,1 +1,2 @@
 pub mod Placing
+pub mod Numerals

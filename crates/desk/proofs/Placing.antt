@@ -3,9 +3,10 @@ use mathlib.Core.Path.{_≡_, refl, sym, ap, _∙_}
 use mathlib.Core.List.{List, [], _∷_, _++_}
 use Prim.Native.Nat.{ℕ, suc, _+_, _≤_, _<_}
 use native.Mathlib.Nat.{add-zero}
+use native.Mathlib.Numerals.{add-one}
 use native.Mathlib.Omega.{arith}
 use lib.ListN.{length, set, take, drop, getD, length-append}
-use lib.Seq.{sets, sets-eq, length-sets}
+use lib.Seq.{length-take-le, take-suc, take-all, sets, sets-eq, length-sets}
 use Rattle.spelling.specs.Over.{over}
 use Rattle.desk.specs.Placed.{placed, Puts}
 
@@ -56,3 +57,15 @@ module _ {before after : List ℕ} {at n : ℕ} {w : List ℕ} (p : Puts before 
 
 pub puts-over : {before after w : List ℕ} {n : ℕ} → Puts before after 0 w n → length w ≤ length before → after ≡ over w before
 puts-over {before} {w = w} p h = p .room ∙ placed-over w before h
+
+-- ---- a list put byte by byte
+
+module _ {before mid : List ℕ} {at n : ℕ} (w : List ℕ) (i : ℕ) (p : Puts before mid at (take i w) n) where
+  pub front-room : i < length w → at + length w ≤ length before → n < length mid
+  front-room h g = omega (arith, p .on, length-take-le i w (omega arith), puts-long p)
+
+  pub front-next : {after : List ℕ} {k : ℕ} → i < length w → Puts mid after n (getD w i 0 ∷ []) k → Puts before after at (take (i + 1) w) k
+  front-next h q = rw (add-one i, take-suc w i 0 h) (puts-on p q)
+
+  pub front-all : length w ≤ i → Puts before mid at w n
+  front-all h = rw (take-all i w h) at p
