@@ -4,3 +4,4 @@ pub mod Placing
 pub mod Numerals
 pub mod Lines
 pub mod Fits
+pub mod Retold
