@@ -1,7 +1,6 @@
 -- Any report has room: numbers are short. Assumes nothing.
-use mathlib.Core.Path.{_≡_}
 use mathlib.Core.List.{List, [], _∷_}
-use Prim.Native.Nat.{ℕ, zero, suc, _+_, _*_, _^_, _≤_, _<_, min}
+use Prim.Native.Nat.{ℕ, zero, suc, _*_, _≤_, _<_, min}
 use native.Mathlib.Omega.{arith}
 use lib.ListN.{length, getD, take, length-append}
 use Rattle.review.specs.declared.sheet.Pair.{Pair}
@@ -22,8 +21,7 @@ pairs-short zero ps h = omega arith
 pairs-short (suc n) [] h = omega arith
 pairs-short (suc n) (p ∷ ps) h =
     let s = h 0 (omega arith) in
-    omega
-    (
+    omega (
       arith,
       length-append (twoNumbers (p .first) (p .second)) (pairLines (take n ps)),
       two-long (p .first) (p .second),
@@ -37,8 +35,7 @@ pub report-fits : (c : Conclusion) → c .told .number < 100 → c .told .place 
     → ((k : ℕ) → k < mostKept → Short (getD (c .sheet .pairs) k (pair 0 0))) → length (report c) ≤ leastRoom
 unfolding mostKept leastRoom
 report-fits c n p a t h =
-    omega
-    (
+    omega (
       arith,
       report-long c,
       verdict-long (c .told),

@@ -1,18 +1,16 @@
 -- The lines of a report: how long they are, and pairs one after another. Assumes nothing.
 use mathlib.Core.Path.{_≡_, refl, sym, ap, _∙_}
 use mathlib.Core.List.{List, [], _∷_, _++_, append-assoc, append-nil}
-use Prim.Native.Nat.{ℕ, _+_, _≤_, _<_, min}
+use Prim.Native.Nat.{ℕ, _+_, _≤_, _<_}
 use native.Mathlib.Numerals.{add-one}
 use native.Mathlib.Omega.{arith}
 use lib.ListN.{length, getD, take, drop, length-append, take-append-drop}
-use lib.Seq.{take-suc, take-take, take-all}
+use lib.Seq.{take-suc, take-take}
 use Rattle.tables.specs.declared.verdict.Told.{Told}
 use Rattle.review.specs.declared.sheet.Pair.{Pair}
 use Rattle.desk.specs.declared.conclusion.Conclusion.{Conclusion}
 use Rattle.desk.specs.Figures.{figures}
-use Rattle.desk.specs.Placed.{Puts}
 use Rattle.desk.specs.Report.{space, newline, verdictWord, placeWord, totalWord, twoNumbers, verdictLine, totalLine, pairLines, kept, report}
-use Rattle.desk.proofs.Placing.{puts-on, puts-long}
 
 -- ---- lengths
 
@@ -23,8 +21,7 @@ two-long a b = omega (arith, length-append (figures a ++ space ∷ figures b) (n
 pub verdict-long : (t : Told) → length (verdictLine t) ≡ length (figures (t .number)) + length (twoNumbers (t .place) (t .also)) + 15
 unfolding verdictLine
 verdict-long t =
-    omega
-    (
+    omega (
       arith,
       length-append (verdictWord ++ figures (t .number) ++ placeWord) (twoNumbers (t .place) (t .also)),
       length-append (verdictWord ++ figures (t .number)) placeWord,
@@ -39,8 +36,7 @@ pub report-long : (c : Conclusion)
     → length (report c) ≡ length (verdictLine (c .told)) + length (totalLine (c .sheet .total)) + length (pairLines (kept (c .sheet)))
 unfolding report
 report-long c =
-    omega
-    (
+    omega (
       arith,
       length-append (verdictLine (c .told) ++ totalLine (c .sheet .total)) (pairLines (kept (c .sheet))),
       length-append (verdictLine (c .told)) (totalLine (c .sheet .total)),
@@ -73,8 +69,7 @@ module _ (ps : List Pair) (i : ℕ) (d : Pair) where
       let j = i + 1 in
       let e : take j (take n ps) ++ drop j (take n ps) ≡ take n ps = take-append-drop j (take n ps) in
       let f : take j (take n ps) ≡ take j ps = take-take j n ps (omega arith) in
-      omega
-      (
+      omega (
         arith,
         ap (λ (l : List Pair). length (pairLines l)) e,
         ap (λ (l : List Pair). length (pairLines l)) f,

@@ -1,14 +1,16 @@
 -- Numbers in decimal: one figure after the other, and what they say. Assumes nothing.
 use mathlib.Core.Path.{_≡_, refl, sym, ap, ap₂, _∙_}
 use mathlib.Core.Logic.{by-cases}
+use mathlib.Core.Bool.{true}
 use mathlib.Core.List.{List, [], _∷_, _++_}
 use Prim.Native.Nat.{ℕ, zero, suc, _+_, _-_, _*_, _/_, _%_, _^_, _≤_, _<_}
 use native.Mathlib.Decide.{decLt}
 use native.Mathlib.Nat.{pow-suc}
 use native.Mathlib.Omega.{arith}
 use lib.ListN.{length, getD, length-append, List·getD-append}
-use borrow.Author.Tests.{lt-ltb, le-ltb}
-use Rattle.spelling.specs.Numbers.{decimal}
+use borrow.Author.Tests.{lt-ltb, le-ltb, le-leb, lt-leb, ne-eqb}
+use Rattle.spelling.specs.Bytes.{classOf, is, digit, run}
+use Rattle.spelling.specs.Numbers.{mostNumber, decimal, Means}
 use Rattle.spelling.proofs.Laws.{Each}
 use Rattle.desk.specs.Figures.{figure, figuresTo, figures}
 
@@ -30,9 +32,9 @@ to-same (suc k) zero n g h = to-digit (suc k) n (omega arith) ∙ sym (to-digit 
 to-same (suc k) (suc l) n g h =
     by-cases (decLt n 10) (λ (d : n < 10). to-digit (suc k) n d ∙ sym (to-digit (suc l) n d))
     (λ (d : ¬ (n < 10)).
-      to-step k n (omega arith)
-      ∙ ap (λ (w : List ℕ). w ++ (figure (n % 10) ∷ [])) (to-same k l (n / 10) (omega arith) (omega arith))
-      ∙ sym (to-step l n (omega arith)))
+    to-step k n (omega arith)
+    ∙ ap (λ (w : List ℕ). w ++ (figure (n % 10) ∷ [])) (to-same k l (n / 10) (omega arith) (omega arith))
+    ∙ sym (to-step l n (omega arith)))
 
 pub figures-digit : (n : ℕ) → n < 10 → figures n ≡ figure n ∷ []
 unfolding figures
@@ -57,8 +59,8 @@ module _ (P : ℕ → List ℕ → Type 0) (one : (n : ℕ) → n < 10 → P n (
   to-figures (suc k) n h =
       by-cases (decLt n 10) (λ (d : n < 10). rw (figures-digit n d) (one n d))
       (λ (d : ¬ (n < 10)).
-        let g : 10 ≤ n = omega arith in
-        rw (figures-step n g) (more n (figures (n / 10)) g (to-figures k (n / 10) (omega arith))))
+      let g : 10 ≤ n = omega arith in
+      rw (figures-step n g) (more n (figures (n / 10)) g (to-figures k (n / 10) (omega arith))))
 
   pub by-figures : (n : ℕ) → P n (figures n)
   by-figures n = to-figures n n (omega arith)
@@ -117,11 +119,10 @@ figures-one {m} {n} e = sym (figures-value m) ∙ ap (decimal 0) e ∙ figures-v
 pub figures-leading : (n : ℕ) → getD (figures n) 0 0 ≡ 48 → n ≡ 0
 figures-leading n =
     by-figures (λ m w. (1 ≤ length w) × (getD w 0 0 ≡ 48 → m ≡ 0)) (λ m h. (omega arith, λ e. omega arith))
-    (λ m w h f.
-      (
-        omega (arith, length-append w (figure (m % 10) ∷ [])),
-        λ e. absurd (omega (arith, f .1 (sym (List·getD-append w (figure (m % 10) ∷ []) 0 0 (f .0)) ∙ e)))
-      ))
+    (λ m w h f. (
+      omega (arith, length-append w (figure (m % 10) ∷ [])),
+      λ e. absurd (omega (arith, f .1 (sym (List·getD-append w (figure (m % 10) ∷ []) 0 0 (f .0)) ∙ e))),
+    ))
     n .1
 
 -- ---- they end where the digits end
@@ -141,3 +142,31 @@ pub figures-apart : {m n b c : ℕ} {x y : List ℕ} → ¬ Digit b → ¬ Digit
 figures-apart {m} {n} {b} {c} {x} {y} p q e =
     let r = apart (figures m) (figures n) b c x y (figures-digits m) (figures-digits n) p q e in
     (figures-one (r .0), r .1)
+
+-- ---- the notation reads them again: a report's number is spelt like a program's
+
+digit-class : (b : ℕ) → Digit b → is digit b ≡ true
+unfolding classOf
+digit-class b d =
+    rw (
+      ne-eqb b 32 (λ (e : b ≡ 32). omega (arith, d .0)),
+      ne-eqb b 10 (λ (e : b ≡ 10). omega (arith, d .0)),
+      lt-leb 97 b (omega (arith, d .1)),
+      le-leb 48 b (d .0),
+      le-leb b 57 (d .1),
+    )
+
+run-digits : (w : List ℕ) → Each Digit w → run (is digit) w ≡ length w
+unfolding run
+run-digits [] f = refl
+run-digits (b ∷ w) f = rw (digit-class b (f .0)) (ap suc (run-digits w (f .1)))
+
+pub figures-mean : (n : ℕ) → n ≤ mostNumber → Means (figures n) n
+figures-mean n h =
+    record {
+      digits = run-digits (figures n) (figures-digits n);
+      some = figures-some n;
+      leading = λ (e : getD (figures n) 0 0 ≡ 48). ap length (figures-digit n (omega (arith, figures-leading n e)));
+      value = figures-value n;
+      small = h;
+    }

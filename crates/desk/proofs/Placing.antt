@@ -5,7 +5,7 @@ use Prim.Native.Nat.{ℕ, suc, _+_, _≤_, _<_}
 use native.Mathlib.Nat.{add-zero}
 use native.Mathlib.Numerals.{add-one}
 use native.Mathlib.Omega.{arith}
-use lib.ListN.{length, set, take, drop, getD, length-append}
+use lib.ListN.{length, set, take, getD, length-append}
 use lib.Seq.{length-take-le, take-suc, take-all, sets, sets-eq, length-sets}
 use Rattle.spelling.specs.Over.{over}
 use Rattle.desk.specs.Placed.{placed, Puts}

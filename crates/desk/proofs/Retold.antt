@@ -1,17 +1,16 @@
 -- A report tells its conclusion again, whatever stands after it. Assumes nothing.
 use mathlib.Core.Path.{_≡_, refl, sym, ap, ap₂, _∙_}
 use mathlib.Core.List.{List, [], _∷_, _++_, append-assoc, append-cancel-left}
-use Prim.Native.Nat.{ℕ, zero, suc, _+_, _≤_, _<_, min}
+use Prim.Native.Nat.{ℕ, zero, suc, min}
 use native.Mathlib.Numerals.{unary-clauses}
 use native.Mathlib.Omega.{arith}
 use lib.ListN.{length, take, length-take}
 use Rattle.tables.specs.Verdicts.{tell}
 use Rattle.tables.specs.declared.verdict.Told.{Told}
 use Rattle.review.specs.declared.sheet.Pair.{Pair}
-use Rattle.review.specs.declared.sheet.Sheet.{Sheet}
 use Rattle.review.specs.Sheet.{mostKept, pair, firsts, sheetOf}
 use Rattle.desk.specs.Figures.{figures}
-use Rattle.desk.specs.Report.{space, newline, verdictWord, placeWord, totalWord, twoNumbers, verdictLine, totalLine, pairLines, kept, report}
+use Rattle.desk.specs.Report.{space, newline, verdictWord, placeWord, totalWord, twoNumbers, verdictLine, totalLine, pairLines, report}
 use Rattle.desk.specs.Promise.{ToldAgain}
 use Rattle.desk.proofs.Numerals.{Digit, figures-apart}
 
@@ -69,7 +68,7 @@ pairs-told [] (q ∷ qs) x y h e = absurd (omega arith)
 pairs-told (p ∷ ps) [] x y h e = absurd (omega arith)
 pairs-told (p ∷ ps) (q ∷ qs) x y h e =
     let r = two-told (p .first) (p .second) (q .first) (q .second) (pairLines ps ++ x) (pairLines qs ++ y)
-        (sym (append-assoc (twoNumbers (p .first) (p .second)) (pairLines ps) x) ∙ e ∙ append-assoc (twoNumbers (q .first) (q .second)) (pairLines qs) y) in
+    (sym (append-assoc (twoNumbers (p .first) (p .second)) (pairLines ps) x) ∙ e ∙ append-assoc (twoNumbers (q .first) (q .second)) (pairLines qs) y) in
     let s = pairs-told ps qs x y (omega arith) (r .2) in
     let f : pair (p .first) (p .second) ≡ pair (q .first) (q .second) = cc in
     (ap₂ (λ (a : Pair) (l : List Pair). a ∷ l) f (s .0), s .1)
@@ -88,10 +87,6 @@ unfolding firsts
 firsts-take zero ps = refl
 firsts-take (suc n) [] = refl
 firsts-take (suc n) (p ∷ ps) = ap (λ (l : List Pair). p ∷ l) (firsts-take n ps)
-
-kept-sheet : (ps : List Pair) → kept (sheetOf ps) ≡ take mostKept ps
-unfolding sheetOf
-kept-sheet ps = kept-firsts mostKept ps
 
 sheet-told : (ps qs : List Pair) → length ps ≡ length qs → take mostKept ps ≡ take mostKept qs → sheetOf ps ≡ sheetOf qs
 unfolding sheetOf

@@ -26,14 +26,8 @@ abbrev below : ℕ → In 1 put-number-kinds.ps
 below t = and 1 put-number-kinds.ps (falls 1 put-number-kinds.ps _<_ μ t) put-number.Pre
 
 module _ (t : ℕ) where
-  cast-put-byte : put-number-lts.Need-cast-put-byte (put-byte-reads.Asked, put-byte-reads.Learnt, below t, put-number.Post) (at-measure t) put-number.Post
-  cast-put-byte c = search needs
-
-  add-put-byte : put-number-lts.Need-add-put-byte (put-byte-reads.Asked, put-byte-reads.Learnt, below t, put-number.Post) (at-measure t) put-number.Post
-  add-put-byte c = search needs
-
   put-byte-requires : put-number-lts.Need-put-byte-requires (put-byte-reads.Asked, put-byte-reads.Learnt, below t, put-number.Post) (at-measure t) put-number.Post
-  put-byte-requires c κs = 
+  put-byte-requires c κs =
       let s = c .before .before .before in
       omega (arith, s .pre .1, ap length (figures-digit (s .args .n) (c .before .if1 .taken)))
 
@@ -41,34 +35,28 @@ module _ (t : ℕ) where
   same-length c = puts-long (c .before .before .put-byte .ensures)
 
   returns : put-number-lts.Need-returns (put-byte-reads.Asked, put-byte-reads.Learnt, below t, put-number.Post) (at-measure t) put-number.Post
-  returns c = 
+  returns c =
       let i = c .before .before .before .before in
       rw (figures-digit _ (i .if1 .taken)) (c .before .before .put-byte .ensures)
 
   put-number-requires : put-number-lts.Need-put-number-requires (put-byte-reads.Asked, put-byte-reads.Learnt, below t, put-number.Post) (at-measure t) put-number.Post
-  put-number-requires c κs = 
+  put-number-requires c κs =
       let s = c .before .before .before in
       (omega (arith, s .pre .0, c .before .if1 .left), omega (arith, s .pre .1, figures-tenth (s .args .n) (omega (arith, c .before .if1 .left))))
 
-  cast-put-byte-2 : put-number-lts.Need-cast-put-byte-2 (put-byte-reads.Asked, put-byte-reads.Learnt, below t, put-number.Post) (at-measure t) put-number.Post
-  cast-put-byte-2 c = search needs
-
-  add-put-byte-2 : put-number-lts.Need-add-put-byte-2 (put-byte-reads.Asked, put-byte-reads.Learnt, below t, put-number.Post) (at-measure t) put-number.Post
-  add-put-byte-2 c = search needs
-
   put-byte-requires-2 : put-number-lts.Need-put-byte-requires-2 (put-byte-reads.Asked, put-byte-reads.Learnt, below t, put-number.Post) (at-measure t) put-number.Post
-  put-byte-requires-2 c κs = 
+  put-byte-requires-2 c κs =
       let p = c .before .before .before in
       let s = p .before .before .before .before in
       omega (arith, s .pre .1, figures-tenth (s .args .n) (omega (arith, p .before .before .if1 .left)), p .put-number .ensures .on, puts-long (p .put-number .ensures))
 
   same-length-2 : put-number-lts.Need-same-length-2 (put-byte-reads.Asked, put-byte-reads.Learnt, below t, put-number.Post) (at-measure t) put-number.Post
-  same-length-2 c = 
+  same-length-2 c =
       let q = c .before .before in
       puts-long (q .put-byte2 .ensures) ∙ puts-long (q .before .before .before .before .put-number .ensures)
 
   returns-2 : put-number-lts.Need-returns-2 (put-byte-reads.Asked, put-byte-reads.Learnt, below t, put-number.Post) (at-measure t) put-number.Post
-  returns-2 c = 
+  returns-2 c =
       let q = c .before .before in
       let p = q .before .before .before .before in
       rw (figures-step (p .before .before .before .before .args .n) (omega (arith, p .before .before .if1 .left))) (puts-on (p .put-number .ensures) (q .put-byte2 .ensures))
@@ -77,13 +65,13 @@ pub +put-number-spec : {M : Type 1} → statement M
 +put-number-spec =
     close μ
     (λ t.
-      put-number-lts.spec (put-byte-reads.Asked, put-byte-reads.Learnt, below t, put-number.Post) (at-measure t) put-number.Post (cast-put-byte t) (add-put-byte t)
-      (put-byte-requires t)
-      (same-length t)
-      (returns t)
-      (put-number-requires t)
-      (cast-put-byte-2 t)
-      (add-put-byte-2 t)
-      (put-byte-requires-2 t)
-      (same-length-2 t)
-      (returns-2 t))
+    put-number-lts.spec (put-byte-reads.Asked, put-byte-reads.Learnt, below t, put-number.Post) (at-measure t) put-number.Post (λ c. search needs) (λ c. search needs)
+    (put-byte-requires t)
+    (same-length t)
+    (returns t)
+    (put-number-requires t)
+    (λ c. search needs)
+    (λ c. search needs)
+    (put-byte-requires-2 t)
+    (same-length-2 t)
+    (returns-2 t))

@@ -1,7 +1,6 @@
 -- `print` meets its contract. Assumes nothing.
 use mathlib.Core.Path.{_∙_}
 use native.Mathlib.Omega.{arith}
-use borrow.Author.Needs.{needs}
 use Rattle.desk.specs.Report.{report}
 use Rattle.desk.proofs.Placing.{puts-on, puts-long, puts-over}
 use Rattle.desk.proofs.Lines.{report-long}
@@ -24,8 +23,7 @@ put-pairs-requires c κs =
     let y = c .before .before .before in
     let x = y .before .before .before .before in
     let s = x .before .before .before in
-    omega
-    (
+    omega (
       arith,
       s .pre,
       report-long (s .args .concluded),

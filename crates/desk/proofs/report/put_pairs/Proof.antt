@@ -31,9 +31,8 @@ put-two-requires c κs =
     let l = c .before .before .before in
     let n = l .before .least in
     let s = l .before .before .before in
-    let e : n .result ≡ min (s .args .t3 .total) 16 = n .ensures in
-    omega
-    (
+    let e : n .result ≡ min (s .args .t3 .total) 16 = omega (arith, n .ensures) in
+    omega (
       arith,
       rw (← e) at (s .pre),
       pairs-room (s .args .t3 .pairs) (l .loop .i) (pair 0 0) (n .result) (c .before .before .loop-test .taken) (omega (arith, e, l .loop .inv .2)),
@@ -45,10 +44,9 @@ loop-again : tie.Need-loop-again Inv-loop μ-loop
 loop-again c =
     let l = c .before .before .before .before .before .before in
     let s = l .before .before .before in
-    let i<n = c .before .before .before .before .before .loop-test .taken in
-    (
+    let i<n = c .before .before .before .before .before .loop-test .taken in (
       rw (pairs-next (s .args .t3 .pairs) (l .loop .i) (pair 0 0) (omega (arith, i<n, l .before .least .ensures, l .loop .inv .2)))
-      (puts-on (l .loop .inv .0) (c .before .before .put-two .ensures)),
+          (puts-on (l .loop .inv .0) (c .before .before .put-two .ensures)),
       omega (arith, i<n),
       l .loop .inv .2,
     )

@@ -24,8 +24,7 @@ put-requires-2 c κs =
     let y = c .before .before .before .before in
     let x = y .before .before .before .before in
     let s = x .before .before .before .before in
-    omega
-    (
+    omega (
       arith,
       s .pre,
       total-long (s .args .total),

@@ -24,8 +24,7 @@ put-number-requires-2 c κs =
     let y = c .before .before .before in
     let x = y .before .before .before .before .before in
     let s = x .before .before .before in
-    omega
-    (
+    omega (
       arith,
       s .pre,
       two-long (s .args .first) (s .args .second),
@@ -41,8 +40,7 @@ put-requires-2 c κs =
     let y = z .before .before .before .before in
     let x = y .before .before .before .before .before in
     let s = x .before .before .before in
-    omega
-    (
+    omega (
       arith,
       s .pre,
       two-long (s .args .first) (s .args .second),

@@ -24,8 +24,7 @@ put-requires-2 c κs =
     let y = c .before .before .before .before in
     let x = y .before .before .before .before .before in
     let s = x .before .before .before .before in
-    omega
-    (
+    omega (
       arith,
       s .pre,
       verdict-long (s .args .told),
@@ -41,8 +40,7 @@ put-two-requires c κs =
     let y = z .before .before .before .before .before in
     let x = y .before .before .before .before .before in
     let s = x .before .before .before .before in
-    omega
-    (
+    omega (
       arith,
       s .pre,
       verdict-long (s .args .told),
