@@ -46,10 +46,10 @@ module _ (text : List ℕ) where
   number = ofText text .told .number
 
   -- the reading into full rooms
-  abbrev taken : Reading
+  abbrev pub taken : Reading
   taken = reads text (mostRows * 3) mostThreads
 
-  read-told : {r : Reading} → taken ≡ r → readAs text ≡ answered r .told
+  pub read-told : {r : Reading} → taken ≡ r → readAs text ≡ answered r .told
   read-told e = ap (λ (a : Answer). a .told) (sym (answered-reads text (mostRows * 3) mostThreads)) ∙ ap (λ (r : Reading). answered r .told) e
 
   -- a text that denotes a program within the limits: its tables are judged
