@@ -29,7 +29,7 @@ pub(crate) fn cut(n: usize) -> u32
 
 // A verdict's two places, and two numbers more, in the first four places.
 pub(crate) fn put_told(answer: &mut [u32], told: Told, third: usize, fourth: usize)
-    requires { ⌜ (answerRoom ≤ length (now answer)) × Counted told third fourth ⌝ }
+    requires { ⌜ (4 ≤ length (now answer)) × Counted told third fourth ⌝ }
     ensures { λ _. ⌜ now (answer .exit) ≡ over (toldNumbers told third fourth) (now (answer .entry)) ⌝ }
 {
     answer[0] = told.place as u32;

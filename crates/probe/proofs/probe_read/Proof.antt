@@ -12,7 +12,6 @@ unfolding answerRoom
 returns c = read-short _ _ _ _ (omega (arith, c .if1 .taken))
 
 put-told-requires : tie.Need-put-told-requires
-unfolding answerRoom
 put-told-requires c κs =
     let f = c .before in
     let n = f .before in

@@ -12,7 +12,6 @@ unfolding answerRoom
 returns c = schedule-short _ _ _ _ (omega (arith, c .if1 .taken))
 
 put-told-requires : tie.Need-put-told-requires
-unfolding answerRoom
 put-told-requires c κs =
     let n = c .before in
     let w = n .before .before .before in
