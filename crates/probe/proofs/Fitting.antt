@@ -3,7 +3,7 @@ use mathlib.Core.Path.{_≡_, refl, sym, ap, _∙_}
 use mathlib.Core.Logic.{⊎-elim, by-cases, _≢_}
 use mathlib.Core.Bool.{Bool, true, false, cond, not}
 use mathlib.Core.List.{List, [], _∷_}
-use Prim.Native.Nat.{ℕ, zero, suc, _%_, _≤_, _<_}
+use Prim.Native.Nat.{ℕ, zero, suc, _%_, _≤_}
 use native.Mathlib.Decide.{ℕ-discrete}
 use native.Mathlib.Omega.{arith}
 use lib.Dec.{eqb, ltb}
@@ -39,7 +39,7 @@ use Rattle.review.specs.declared.sheet.Pair.{Pair}
 use Rattle.review.specs.declared.sheet.Sheet.{Sheet}
 use Rattle.review.specs.declared.judge.Finding.{Finding}
 use Rattle.probe.specs.Numbers.{Counted, PairsCounted}
-use Rattle.probe.proofs.Bounds.{Small, finding-small}
+use Rattle.probe.proofs.Bounds.{finding-small}
 
 -- ---- the review
 

@@ -15,7 +15,7 @@ use Rattle.replay.specs.declared.writer.Written.{Written}
 use Rattle.review.specs.Agreement.{Reviewed}
 use Rattle.review.specs.declared.judge.Finding.{Finding}
 use Rattle.probe.specs.declared.counts.Counts.{Counts}
-use Rattle.probe.specs.Numbers.{answerRoom, largest, toldNumbers, pairNumbers, countsOf, readingNumbers}
+use Rattle.probe.specs.Numbers.{answerRoom, largest, toldNumbers, pairNumbers, countsOf}
 use Rattle.probe.specs.Promise.{ProbesReview, ProbesSchedule, ProbesRead}
 use Rattle.probe.proofs.Fitting.{rest-in}
 use Rattle.probe.proofs.Putting.{told-and-more, told-and-one}

@@ -3,10 +3,8 @@ use mathlib.Core.Path.{_≡_, sym, ap, subst, _∙_}
 use mathlib.Core.Bool.{Bool, cond}
 use mathlib.Core.List.{List}
 use Prim.Native.Nat.{ℕ}
-use lib.Dec.{leb}
-use lib.ListN.{length}
 use Rattle.relation.specs.Chains.{Chain}
-use Rattle.relation.specs.Table.{words, Related, Writes}
+use Rattle.relation.specs.Table.{Related, Writes}
 use Rattle.probe.specs.Promise.{ProbesClose}
 use borrow.Author.Needs.{needs}
 use Rattle.probe.proofs.probe_close.Statement.{statement}
