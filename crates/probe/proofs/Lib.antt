@@ -1,0 +1,7 @@
+-- Laws, by subject: Bounds (scratch), Fitting (what is told fits its places), Putting (numbers put into a room), Telling (what was put is what is promised), Unique
+-- (the doors have one answer each).
+mod Bounds
+mod Fitting
+mod Putting
+mod Telling
+pub mod Unique
