@@ -128,6 +128,7 @@ module _ (text : List ℕ) where
     where
       most : (number < 12) × (number ≢ 3)
       most = ⊎-elim (λ (e : number ≡ 0). (omega arith, λ z. omega arith)) (λ (l : (7 ≤ number) × (number ≤ 11)). (omega (arith, l .1), λ z. omega (arith, l .0))) h
+
       by : Kind → (x : Program) × Sound text x
       by (sound x S) = (x, S)
       by (broken e) = absurd (most .1 e)
@@ -137,17 +138,19 @@ module _ (text : List ℕ) where
   pub text-judged : JudgesText text number
   text-judged =
       record {
-        agreement =
-            (λ h.
-            let (x, S) = is-sound (⊎-elim inl (λ (e : number ≡ 11). inr (omega arith, omega arith)) h) in
-            (x, S, sound-judges S .agreement .0 h .1),
-            λ (x, S, A). sound-judges S .agreement .1 (complete S, A));
-        order =
-            (λ h.
-            let (x, S) = is-sound (inl h) in
-            let (_, A, O) = sound-judges S .order .0 h in
-            (x, S, A, O),
-            λ (x, S, A, O). sound-judges S .order .1 (complete S, A, O));
+        agreement = (
+          λ h.
+              let (x, S) = is-sound (⊎-elim inl (λ (e : number ≡ 11). inr (omega arith, omega arith)) h) in
+              (x, S, sound-judges S .agreement .0 h .1),
+          λ (x, S, A). sound-judges S .agreement .1 (complete S, A),
+        );
+        order = (
+          λ h.
+              let (x, S) = is-sound (inl h) in
+              let (_, A, O) = sound-judges S .order .0 h in
+              (x, S, A, O),
+          λ (x, S, A, O). sound-judges S .order .1 (complete S, A, O),
+        );
         disagreement =
             λ a b.
             let (x, S) = is-sound (inr (a, omega arith)) in

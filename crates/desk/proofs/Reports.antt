@@ -51,10 +51,11 @@ module _ (commands lengths : List ℕ) where
 
   few-told : (toldOf commands lengths .number < 100) × (toldOf commands lengths .place < 100000) × (toldOf commands lengths .also < 1000)
   unfolding mostRows
-  few-told =
-      (omega (arith, number-small commands lengths σ (words mostRows) mostRows),
-      omega (arith, place-small commands lengths σ (words mostRows) mostRows),
-      omega (arith, also-small commands lengths σ (words mostRows) mostRows))
+  few-told = (
+    omega (arith, number-small commands lengths σ (words mostRows) mostRows),
+    omega (arith, place-small commands lengths σ (words mostRows) mostRows),
+    omega (arith, also-small commands lengths σ (words mostRows) mostRows),
+  )
 
   few-faults : fills (toldOf commands lengths .number) ≡ true → Few (record { told = toldOf commands lengths; sheet = sheetOf (pairsOf commands lengths) })
   unfolding mostRows sheetOf

@@ -39,7 +39,7 @@ use Rattle.review.specs.declared.sheet.Pair.{Pair}
 use Rattle.review.specs.declared.sheet.Sheet.{Sheet}
 use Rattle.review.specs.declared.judge.Finding.{Finding}
 use Rattle.probe.specs.Numbers.{Counted, PairsCounted}
-use Rattle.probe.proofs.Bounds.{finding-small}
+use Rattle.review.proofs.Bounds.{finding-small}
 
 -- ---- the review
 

@@ -238,7 +238,9 @@ module _ (commands lengths : List ℕ) where
     where
       found : Fault → List Pair
       found = faults commands lengths (generations commands lengths σ) (reaches commands lengths σ)
+
       j : ℕ
       j = judged lengths (played commands lengths σ) .number
+
       told₇ : Told → Type 0
       told₇ t = (t .number ≡ 0) ⊎ ((7 ≤ t .number) × (t .number ≤ 11))
