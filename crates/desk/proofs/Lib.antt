@@ -1,2 +1,12 @@
-mod Tabled
-mod Texts
+-- Read in this order: Placing (bytes put into a room); Numerals (numbers in decimal); Lines (the report's lines); Fits (a report of small numbers has room); Retold (a
+-- report tells its conclusion again); Tabled (two tables, judged by the writer's schedule); Texts (a text, read into tables); Demands (what is concluded, by the grammar);
+-- Reports (any text's report has room; nothing else meets the promise).
+pub mod Placing
+pub mod Numerals
+pub mod Lines
+pub mod Fits
+pub mod Retold
+pub mod Tabled
+pub mod Texts
+pub mod Demands
+pub mod Reports

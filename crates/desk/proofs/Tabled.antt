@@ -91,6 +91,7 @@ module _ {commands lengths σ relation room relation′ room′ : List ℕ} {f :
           let q = s e in
           let v : numbered (f .verdict) ≡ toldOf commands lengths = R .demand₂ .verdict ∙ rw (wide, high, q) in
           agrees v (λ p. R .demand₂ .sheet (ap (λ (u : Told). fills (u .number)) v ∙ p) ∙ rw q)
+
       refused : checked commands lengths .number ≢ 0 → told-as ≡ ofTables commands lengths
       refused n =
           let q : toldOf commands lengths ≡ checked commands lengths = refused-checked commands lengths n (schedule commands lengths) (words mostRows) mostRows in

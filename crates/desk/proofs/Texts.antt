@@ -59,11 +59,13 @@ module _ {text commands lengths commands′ lengths′ : List ℕ} {r : Reading}
         let a : rowNumbers text ≡ flat (programRows x) = ap (λ (o : Outcome). flat (o .rows)) f in
         let b : threadLengths text ≡ programLengths x = ap (λ (o : Outcome). o .lengths) f in
         let u : length (flat (programRows x)) ≡ m * 3 = omega (arith, program-long x) in
-        let v : length (programLengths x) ≡ t = length-map (threads x) (λ (w : List Command). length w) ∙ j in
-        (ap (λ (l : List ℕ). take (m * 3) l) (h .rows) ∙ take-at (flat (programRows x)) _ (m * 3) u ∙ sym a,
-        ap (λ (l : List ℕ). take t l) (h .lens) ∙ take-at (programLengths x) _ t v ∙ sym b,
-        omega (arith, ap (λ (l : List ℕ). length l) (h .rows), length-append (flat (programRows x)) (drop (length (flat (programRows x))) commands)),
-        omega (arith, ap (λ (l : List ℕ). length l) (h .lens), length-append (programLengths x) (drop (length (programLengths x)) lengths)), omega (arith, w .few-rows))
+        let v : length (programLengths x) ≡ t = length-map (threads x) (λ (w : List Command). length w) ∙ j in (
+          ap (λ (l : List ℕ). take (m * 3) l) (h .rows) ∙ take-at (flat (programRows x)) _ (m * 3) u ∙ sym a,
+          ap (λ (l : List ℕ). take t l) (h .lens) ∙ take-at (programLengths x) _ t v ∙ sym b,
+          omega (arith, ap (λ (l : List ℕ). length l) (h .rows), length-append (flat (programRows x)) (drop (length (flat (programRows x))) commands)),
+          omega (arith, ap (λ (l : List ℕ). length l) (h .lens), length-append (programLengths x) (drop (length (programLengths x)) lengths)),
+          omega (arith, w .few-rows),
+        )
 
     pub few-rows : m ≤ mostRows
     few-rows = stand .4

@@ -1,6 +1,6 @@
 -- Where a verdict stands: no number of its place is above the limit of rows. And what is told of a legal complete schedule. Assumes nothing.
 use mathlib.Core.Path.{_≡_, refl}
-use mathlib.Core.Logic.{_≢_}
+use mathlib.Core.Logic.{_⊎_, inl, inr}
 use mathlib.Core.Bool.{Bool, true, false, cond, not}
 use mathlib.Core.List.{List, [], reverse}
 use Prim.Native.Nat.{ℕ, _%_, _≤_, _<_}
@@ -90,19 +90,23 @@ module _ {commands lengths : List ℕ} (K : Keeps commands lengths) where
       by (refused-at e nay v) = rw v (placed 5 (played commands lengths σ .steps) (omega (arith, e .steps, steps-placed (e .ρ) (e .stands))))
       by (mismatched-at e st m v) = rw v (placed 7 _ (omega (arith, command-row K (e .stands) (e .t) st, K .few-rows)))
 
--- ---- a legal complete schedule is told neither 5 nor 6
+-- ---- a legal complete schedule is told 7 to 9, or 0
 
-neither : (a b d : Bool) (p q r : ℕ) → a ≡ false → let n = cond a (tell 6 p 0) (cond b (tell 8 q 0) (cond d (tell 9 r 0) (tell 0 0 0))) .number in (n ≢ 5) × (n ≢ 6)
-neither true b d p q r e = clashing refl e
-neither false true d p q r e = ((λ z. omega arith), (λ z. omega arith))
-neither false false true p q r e = ((λ z. omega arith), (λ z. omega arith))
-neither false false false p q r e = ((λ z. omega arith), (λ z. omega arith))
+abbrev Told₇ : ℕ → Type 0
+Told₇ n = (n ≡ 0) ⊎ ((7 ≤ n) × (n ≤ 9))
 
-pub complete-told : {commands lengths : List ℕ} → Keeps commands lengths → (σ : List ℕ) → Complete commands lengths σ
-    → (judged lengths (played commands lengths σ) .number ≢ 5) × (judged lengths (played commands lengths σ) .number ≢ 6)
+ended-told : (a b d : Bool) (p q r : ℕ) → a ≡ false → Told₇ (cond a (tell 6 p 0) (cond b (tell 8 q 0) (cond d (tell 9 r 0) (tell 0 0 0))) .number)
+ended-told true b d p q r e = clashing refl e
+ended-told false true d p q r e = inr (omega arith, omega arith)
+ended-told false false true p q r e = inr (omega arith, omega arith)
+ended-told false false false p q r e = inl refl
+
+pub complete-told : {commands lengths : List ℕ} (σ : List ℕ) → Complete commands lengths σ
+    → (judged lengths (played commands lengths σ) .number ≡ 0)
+    ⊎ ((7 ≤ judged lengths (played commands lengths σ) .number) × (judged lengths (played commands lengths σ) .number ≤ 9))
 unfolding judged ended
-complete-told {commands} {lengths} K σ (stopped c stop) =
+complete-told {commands} {lengths} σ (stopped c stop) =
     let s = stateAfter commands lengths σ in
-    rw c (neither (ltb (lowestAllowed lengths s) (length lengths)) (ltb (lowestBlocked lengths s) (length lengths)) (ltb (lowestSet s) barriers) _ _ _
+    rw c (ended-told (ltb (lowestAllowed lengths s) (length lengths)) (ltb (lowestBlocked lengths s) (length lengths)) (ltb (lowestSet s) barriers) _ _ _
     (isnt _ (λ e. clashing (lowest-hit (allowed lengths s) (length lengths) e .1) (stop (lowestAllowed lengths s)))))
-complete-told {commands} {lengths} K σ (mismatched v _) = rw v ((λ z. omega arith), (λ z. omega arith))
+complete-told σ (mismatched v _) = rw v (inr (omega arith, omega arith))

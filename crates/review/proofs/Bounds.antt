@@ -1,6 +1,6 @@
 -- How large the numbers of a review's answer are, and what is told in rooms for the longest tables. Assumes nothing.
-use mathlib.Core.Path.{_≡_, sym, _∙_, subst}
-use mathlib.Core.Logic.{by-cases, ⊎-elim, _≢_}
+use mathlib.Core.Path.{_≡_, refl, sym, _∙_, subst}
+use mathlib.Core.Logic.{_⊎_, inl, inr, by-cases, ⊎-elim, _≢_}
 use mathlib.Core.Bool.{Bool, true, false, cond}
 use mathlib.Core.List.{List, [], _∷_}
 use Prim.Native.Nat.{ℕ, zero, suc, _*_, _≤_, _<_}
@@ -23,7 +23,8 @@ use Rattle.replay.specs.Replay.{played}
 use Rattle.replay.specs.Ending.{judged}
 use Rattle.replay.proofs.Refusals.{or-first, or-second, or-either}
 use Rattle.replay.proofs.Judged.{judged-small}
-use Rattle.replay.proofs.Places.{Placed, placed, checked-placed, judged-placed}
+use Rattle.replay.proofs.Places.{Placed, placed, checked-placed, judged-placed, complete-told}
+use Rattle.replay.specs.Schedules.{Complete}
 use Rattle.review.specs.declared.sheet.Pair.{Pair}
 use Rattle.review.specs.declared.sheet.Sheet.{Sheet}
 use Rattle.review.specs.declared.faults.Fault.{Fault}
@@ -198,6 +199,11 @@ finding-small {commands} {lengths} {σ} {relation} {room} {r} R =
 
 -- ---- rooms for the longest tables
 
+fault-told : (ps qs : List Pair) → let n = firstPair 10 ps (firstPair 11 qs (tell 0 0 0)) .number in (n ≡ 0) ⊎ ((7 ≤ n) × (n ≤ 11))
+fault-told (p ∷ ps) qs = inr (omega arith, omega arith)
+fault-told [] (q ∷ qs) = inr (omega arith, omega arith)
+fault-told [] [] = inl refl
+
 words-most : (m : ℕ) → m ≤ mostRows → words m ≤ words mostRows
 unfolding width
 words-most m l = mul-le-mul l (omega arith)
@@ -224,3 +230,17 @@ module _ (commands lengths : List ℕ) where
       ≡ orElse (judged lengths (played commands lengths σ)) (faultTold commands lengths (generations commands lengths σ) (reaches commands lengths σ))
   unfolding verdictOf
   passed-told e σ = rw (full-rooms e)
+
+  -- 7 to 11, or 0, where that is legal and complete
+  pub complete-number : checked commands lengths .number ≡ 0 → (σ : List ℕ) → Complete commands lengths σ
+      → let n = verdictOf commands lengths σ (words mostRows) mostRows .number in (n ≡ 0) ⊎ ((7 ≤ n) × (n ≤ 11))
+  complete-number e σ c = rw (passed-told e σ) (or-either told₇ _ _ (⊎-elim inl (λ (h : (7 ≤ j) × (j ≤ 9)). inr (h .0, omega (arith, h .1))) (complete-told σ c)) (λ _. fault-told (found Reuse) (found Race)))
+    where
+      found : Fault → List Pair
+      found = faults commands lengths (generations commands lengths σ) (reaches commands lengths σ)
+
+      j : ℕ
+      j = judged lengths (played commands lengths σ) .number
+
+      told₇ : Told → Type 0
+      told₇ t = (t .number ≡ 0) ⊎ ((7 ≤ t .number) × (t .number ≤ 11))

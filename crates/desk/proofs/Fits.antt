@@ -1,0 +1,49 @@
+-- Any report has room: numbers are short. Assumes nothing.
+use mathlib.Core.List.{List, [], _∷_}
+use Prim.Native.Nat.{ℕ, zero, suc, _*_, _≤_, _<_, min}
+use native.Mathlib.Omega.{arith}
+use lib.ListN.{length, getD, take, length-append}
+use Rattle.review.specs.declared.sheet.Pair.{Pair}
+use Rattle.review.specs.Sheet.{mostKept, pair}
+use Rattle.desk.specs.declared.conclusion.Conclusion.{Conclusion}
+use Rattle.desk.specs.Report.{leastRoom, twoNumbers, pairLines, report}
+use Rattle.desk.proofs.Numerals.{figures-long}
+use Rattle.desk.proofs.Lines.{two-long, verdict-long, total-long, report-long}
+
+-- numbers below 1,000
+abbrev pub Short : Pair → Type 0
+Short p = (p .first < 1000) × (p .second < 1000)
+
+-- eight bytes a line
+pairs-short : (n : ℕ) (ps : List Pair) → ((k : ℕ) → k < n → Short (getD ps k (pair 0 0))) → length (pairLines (take n ps)) ≤ n * 8
+unfolding pairLines
+pairs-short zero ps h = omega arith
+pairs-short (suc n) [] h = omega arith
+pairs-short (suc n) (p ∷ ps) h =
+    let s = h 0 (omega arith) in
+    omega (
+      arith,
+      length-append (twoNumbers (p .first) (p .second)) (pairLines (take n ps)),
+      two-long (p .first) (p .second),
+      figures-long (p .first) 3 (s .0) (omega arith),
+      figures-long (p .second) 3 (s .1) (omega arith),
+      pairs-short n ps (λ k l. h (suc k) (omega arith)),
+    )
+
+-- 27 and 13 bytes at most, and sixteen lines of pairs
+pub report-fits : (c : Conclusion) → c .told .number < 100 → c .told .place < 100000 → c .told .also < 1000 → c .sheet .total < 1000000
+    → ((k : ℕ) → k < mostKept → Short (getD (c .sheet .pairs) k (pair 0 0))) → length (report c) ≤ leastRoom
+unfolding mostKept leastRoom
+report-fits c n p a t h =
+    omega (
+      arith,
+      report-long c,
+      verdict-long (c .told),
+      two-long (c .told .place) (c .told .also),
+      total-long (c .sheet .total),
+      figures-long (c .told .number) 2 n (omega arith),
+      figures-long (c .told .place) 5 p (omega arith),
+      figures-long (c .told .also) 3 a (omega arith),
+      figures-long (c .sheet .total) 6 t (omega arith),
+      pairs-short (min (c .sheet .total) 16) (c .sheet .pairs) (λ k l. h k (omega arith)),
+    )

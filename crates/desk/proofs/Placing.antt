@@ -1,0 +1,71 @@
+-- Bytes that are put into a room one after another. Assumes nothing.
+use mathlib.Core.Path.{_≡_, refl, sym, ap, _∙_}
+use mathlib.Core.List.{List, [], _∷_, _++_}
+use Prim.Native.Nat.{ℕ, suc, _+_, _≤_, _<_}
+use native.Mathlib.Nat.{add-zero}
+use native.Mathlib.Numerals.{add-one}
+use native.Mathlib.Omega.{arith}
+use lib.ListN.{length, set, take, getD, length-append}
+use lib.Seq.{length-take-le, take-suc, take-all, sets, sets-eq, length-sets}
+use Rattle.spelling.specs.Over.{over}
+use Rattle.desk.specs.Placed.{placed, Puts}
+
+-- ---- what is placed
+
+placed-sets : (at : ℕ) (w room : List ℕ) → placed at w room ≡ sets room at w
+unfolding placed
+placed-sets at [] room = refl
+placed-sets at (b ∷ w) room = placed-sets (suc at) w (set room at b)
+
+placed-length : (at : ℕ) (w room : List ℕ) → length (placed at w room) ≡ length room
+placed-length at w room = ap length (placed-sets at w room) ∙ length-sets room at w
+
+placed-append : (at : ℕ) (a b room : List ℕ) → placed at (a ++ b) room ≡ placed (at + length a) b (placed at a room)
+unfolding placed
+placed-append at [] b room = rw (add-zero at)
+placed-append at (x ∷ a) b room =
+    let e : suc at + length a ≡ at + suc (length a) = omega arith in
+    placed-append (suc at) a b (set room at x) ∙ ap (λ (k : ℕ). placed k b (placed (suc at) a (set room at x))) e
+
+placed-over : (w room : List ℕ) → length w ≤ length room → placed 0 w room ≡ over w room
+placed-over w room h = placed-sets 0 w room ∙ sets-eq w room 0 (omega arith) ∙ rw (zero-on (length w))
+  where
+    zero-on : (n : ℕ) → 0 + n ≡ n
+    zero-on n = omega arith
+
+-- ---- puts one after another
+
+pub puts-none : (room : List ℕ) (at : ℕ) → Puts room room at [] at
+unfolding placed
+puts-none room at = record { room = refl; on = omega arith }
+
+pub puts-one : (room : List ℕ) (at b : ℕ) → Puts room (set room at b) at (b ∷ []) (at + 1)
+unfolding placed
+puts-one room at b = record { room = refl; on = omega arith }
+
+module _ {before mid after : List ℕ} {at n k : ℕ} {a b : List ℕ} where
+  pub puts-on : Puts before mid at a n → Puts mid after n b k → Puts before after at (a ++ b) k
+  puts-on p q =
+      record {
+        room = q .room ∙ rw (p .room, p .on) (sym (placed-append at a b before));
+        on = omega (arith, p .on, q .on, length-append a b);
+      }
+
+module _ {before after : List ℕ} {at n : ℕ} {w : List ℕ} (p : Puts before after at w n) where
+  pub puts-long : length after ≡ length before
+  puts-long = ap length (p .room) ∙ placed-length at w before
+
+pub puts-over : {before after w : List ℕ} {n : ℕ} → Puts before after 0 w n → length w ≤ length before → after ≡ over w before
+puts-over {before} {w = w} p h = p .room ∙ placed-over w before h
+
+-- ---- a list put byte by byte
+
+module _ {before mid : List ℕ} {at n : ℕ} (w : List ℕ) (i : ℕ) (p : Puts before mid at (take i w) n) where
+  pub front-room : i < length w → at + length w ≤ length before → n < length mid
+  front-room h g = omega (arith, p .on, length-take-le i w (omega arith), puts-long p)
+
+  pub front-next : {after : List ℕ} {k : ℕ} → i < length w → Puts mid after n (getD w i 0 ∷ []) k → Puts before after at (take (i + 1) w) k
+  front-next h q = rw (add-one i, take-suc w i 0 h) (puts-on p q)
+
+  pub front-all : length w ≤ i → Puts before mid at w n
+  front-all h = rw (take-all i w h) at p

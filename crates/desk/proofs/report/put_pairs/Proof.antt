@@ -1,0 +1,80 @@
+-- `put_pairs` meets its contract: after i turns the first i pairs are put. Assumes nothing.
+use mathlib.Core.Path.{_≡_, sym, _∙_}
+use Prim.Native.Nat.{_-_, _≤_, min}
+use native.Mathlib.Omega.{arith}
+use lib.ListN.{length, take, length-map}
+use borrow.Author.Needs.{needs}
+use Rattle.review.specs.Sheet.{mostKept, pair}
+use Rattle.desk.specs.Placed.{Puts}
+use Rattle.desk.specs.Report.{pairLines}
+use Rattle.desk.proofs.Placing.{puts-none, puts-on, puts-long}
+use Rattle.desk.proofs.Lines.{pairs-next, pairs-room}
+use Rattle.desk.proofs.report.put_pairs.Statement.{statement}
+use Rattle.desk.proofs.report.put_pairs.Tie as tie
+
+abbrev Inv-loop : tie.InvT-loop
+Inv-loop room₀ at sheet lines next₀ i₀ room next i =
+    Puts room₀ room at (pairLines (take i (sheet .pairs))) next × (i ≤ lines) × (length (sheet .pairs) ≡ 16)
+
+abbrev μ-loop : tie.MeasureT-loop
+μ-loop room₀ at sheet lines next₀ i₀ room next i = lines - i
+
+loop-holds : tie.Need-loop-holds Inv-loop μ-loop
+unfolding pairLines
+loop-holds c =
+    let s = c .before .before in
+    (puts-none _ _, omega arith, sym (length-map (s .args .t3 .pairs) _) ∙ s .good .1 .1 .0 .1 .1 .0 .1 .0 .1)
+
+put-two-requires : tie.Need-put-two-requires Inv-loop μ-loop
+unfolding mostKept
+put-two-requires c κs =
+    let l = c .before .before .before in
+    let n = l .before .least in
+    let s = l .before .before .before in
+    let e : n .result ≡ min (s .args .t3 .total) 16 = omega (arith, n .ensures) in
+    omega (
+      arith,
+      rw (← e) at (s .pre),
+      pairs-room (s .args .t3 .pairs) (l .loop .i) (pair 0 0) (n .result) (c .before .before .loop-test .taken) (omega (arith, e, l .loop .inv .2)),
+      l .loop .inv .0 .on,
+      puts-long (l .loop .inv .0),
+    )
+
+loop-again : tie.Need-loop-again Inv-loop μ-loop
+loop-again c =
+    let l = c .before .before .before .before .before .before in
+    let s = l .before .before .before in
+    let i<n = c .before .before .before .before .before .loop-test .taken in (
+      rw (pairs-next (s .args .t3 .pairs) (l .loop .i) (pair 0 0) (omega (arith, i<n, l .before .least .ensures, l .loop .inv .2)))
+          (puts-on (l .loop .inv .0) (c .before .before .put-two .ensures)),
+      omega (arith, i<n),
+      l .loop .inv .2,
+    )
+
+same-length : tie.Need-same-length Inv-loop μ-loop
+same-length c = puts-long (c .before .loop .inv .0)
+
+returns : tie.Need-returns Inv-loop μ-loop
+unfolding mostKept
+returns c =
+    let l = c .before in
+    let s = l .before .before .before in
+    let e : l .loop .i ≡ min (s .args .t3 .total) 16 = omega (arith, c .loop-test .left, l .loop .inv .1, l .before .least .ensures) in
+    rw e at (l .loop .inv .0)
+
+pub put-pairs-spec : {M : Type 1} → statement M
+put-pairs-spec =
+    tie.close
+    (tie.spec
+    Inv-loop
+    μ-loop
+    (λ c κs. search needs)
+    loop-holds
+    (λ c. search needs)
+    (λ c. search needs)
+    put-two-requires
+    (λ c. search needs)
+    (λ c. search needs)
+    loop-again
+    same-length
+    returns)

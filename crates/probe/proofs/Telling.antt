@@ -1,0 +1,71 @@
+-- What a door has put into its answer room is what it promises to tell. Assumes nothing.
+use mathlib.Core.Path.{_≡_, refl, ap, _∙_}
+use mathlib.Core.List.{List, _++_}
+use Prim.Native.Nat.{ℕ, _-_, _≤_, _<_, min}
+use native.Mathlib.Omega.{arith}
+use lib.ListN.{length, set, take, drop, length-drop}
+use Rattle.tables.specs.Verdicts.{numbered}
+use Rattle.tables.specs.declared.verdict.Told.{Told}
+use Rattle.spelling.specs.Over.{over}
+use Rattle.notation.specs.Reading.{answered, restAt, restOf}
+use Rattle.notation.specs.Promise.{Read}
+use Rattle.notation.specs.declared.reading.Reading.{Reading}
+use Rattle.replay.specs.Doors.{Writes}
+use Rattle.replay.specs.declared.writer.Written.{Written}
+use Rattle.review.specs.Agreement.{Reviewed}
+use Rattle.review.specs.declared.judge.Finding.{Finding}
+use Rattle.probe.specs.declared.counts.Counts.{Counts}
+use Rattle.probe.specs.Numbers.{answerRoom, largest, toldNumbers, pairNumbers, countsOf}
+use Rattle.probe.specs.Promise.{ProbesReview, ProbesSchedule, ProbesRead}
+use Rattle.probe.proofs.Fitting.{rest-in}
+use Rattle.probe.proofs.Putting.{told-and-more, told-and-one}
+
+module _ (commands lengths σ relation room answer : List ℕ) where
+  pub review-short : length answer < answerRoom → ProbesReview commands lengths σ relation room answer relation room answer 14
+  review-short h = record { refuses = λ _. (refl, refl, refl, refl); found = λ l. absurd (omega arith) }
+
+  pub review-told : {r : Finding} {relation′ room′ answer′ answer″ : List ℕ} {t : Told} → answerRoom ≤ length answer
+      → Reviewed commands lengths σ relation room r relation′ room′ → t ≡ numbered (r .verdict)
+      → answer′ ≡ over (toldNumbers t (r .sheet .total) 0) answer → answer″ ≡ over (take 4 answer′ ++ pairNumbers (r .sheet .pairs)) answer′
+      → ProbesReview commands lengths σ relation room answer relation′ room′ answer″ (t .number)
+  review-told {r} {t = t} h R e p q =
+      record {
+        refuses = λ l. absurd (omega arith);
+        found = λ _. (r, R, ap (λ (t : Told). t .number) e, q ∙ rw (p, e) (told-and-more (numbered (r .verdict)) (r .sheet .total) 0 answer (pairNumbers (r .sheet .pairs))));
+      }
+
+module _ (commands lengths room answer : List ℕ) where
+  pub schedule-short : length answer < answerRoom → ProbesSchedule commands lengths room answer room answer 14
+  schedule-short h = record { refuses = λ _. (refl, refl, refl); wrote = λ l. absurd (omega arith) }
+
+  pub schedule-told : {r : Written} {room′ answer′ : List ℕ} {t : Told} → answerRoom ≤ length answer
+      → Writes commands lengths room room′ r → t ≡ numbered (r .verdict) → answer′ ≡ over (toldNumbers t (r .length) 0) answer
+      → ProbesSchedule commands lengths room answer room′ answer′ (t .number)
+  schedule-told {r} h W e p =
+      record { refuses = λ l. absurd (omega arith); wrote = λ _. (r, W, ap (λ (t : Told). t .number) e, p ∙ ap (λ (t : Told). over (toldNumbers t (r .length) 0) answer) e) }
+
+-- the rest of a text begins so far before its end
+pub rest-begins : (text : List ℕ) (r : Reading) (rest : List ℕ) → rest ≡ restOf r text → (length rest ≤ length text) × (length text - length rest ≡ restAt r (length text))
+rest-begins text r rest e =
+    let n : length rest ≡ length text - restAt r (length text) = ap length e ∙ length-drop (restAt r (length text)) text in
+    (omega arith, omega (arith, rest-in r (length text)))
+
+module _ (text commands lengths answer : List ℕ) where
+  pub read-short : length answer < answerRoom → ProbesRead text commands lengths answer commands lengths answer 14
+  read-short h = record { refuses = λ _. (refl, refl, refl, refl); read = λ l. absurd (omega arith) }
+
+  pub read-told : {r : Reading} {commands′ lengths′ answer′ rest : List ℕ} {t : Told} {f : Counts} {n : ℕ} → answerRoom ≤ length answer
+      → Read text commands lengths commands′ lengths′ r → t ≡ answered r .told → f ≡ countsOf r
+      → answer′ ≡ over (toldNumbers t (f .commands) (f .threads)) answer → rest ≡ restOf r text → n ≡ min (length text - length rest) largest
+      → ProbesRead text commands lengths answer commands′ lengths′ (set answer′ 4 n) (t .number)
+  unfolding answerRoom
+  read-told {r} {rest = rest} h R e f p s at =
+      record {
+        refuses = λ l. absurd (omega arith);
+        read = λ _. (
+          r,
+          R,
+          ap (λ (t : Told). t .number) e,
+          rw (p, e, f, at, rest-begins text r rest s .1) (told-and-one (answered r .told) (answered r .commands) (answered r .threads) answer _ (omega arith)),
+        );
+      }

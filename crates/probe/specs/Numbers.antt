@@ -1,0 +1,61 @@
+-- The numbers that an answer room gets, from its first place on.
+use mathlib.Core.Path.{_≡_}
+use mathlib.Core.List.{List, [], _∷_, _++_}
+use Prim.Native.Nat.{ℕ, _≤_, _<_, min}
+use lib.ListN.{length, getD}
+use Rattle.tables.specs.Verdicts.{numbered}
+use Rattle.tables.specs.declared.verdict.Told.{Told}
+use Rattle.notation.specs.Reading.{answered, restAt}
+use Rattle.notation.specs.declared.reading.Reading.{Reading}
+use Rattle.replay.specs.declared.writer.Written.{Written}
+use Rattle.review.specs.Sheet.{mostKept, pair}
+use Rattle.review.specs.declared.sheet.Pair.{Pair}
+use Rattle.review.specs.declared.judge.Finding.{Finding}
+use Rattle.probe.specs.declared.counts.Counts.{Counts}
+
+-- an answer room has at least so many numbers
+unfoldable pub answerRoom : ℕ
+answerRoom = 36
+
+-- the largest number that one of its places holds
+abbrev pub largest : ℕ
+largest = 4294967295
+
+-- two places, and two numbers more
+abbrev pub toldNumbers : Told → ℕ → ℕ → List ℕ
+toldNumbers t a b = t .place ∷ t .also ∷ a ∷ b ∷ []
+
+-- both numbers of each pair
+unfoldable pub pairNumbers : List Pair → List ℕ
+pairNumbers [] = []
+pairNumbers (p ∷ ps) = p .first ∷ p .second ∷ pairNumbers ps
+
+-- the numbers that a review's finding is told by: its total stands third, and then 0 and the sheet's pairs
+abbrev pub findingNumbers : Finding → List ℕ
+findingNumbers r = toldNumbers (numbered (r .verdict)) (r .sheet .total) 0 ++ pairNumbers (r .sheet .pairs)
+
+-- those of a written schedule: its length stands third
+abbrev pub writtenNumbers : Written → List ℕ
+writtenNumbers r = toldNumbers (numbered (r .verdict)) (r .length) 0
+
+-- how many commands and threads a reading found
+abbrev pub countsOf : Reading → Counts
+countsOf r = record { commands = answered r .commands; threads = answered r .threads }
+
+-- Those of a reading of n bytes: then commands, threads, and where the rest begins. In a text of 4 GiB or more, which is refused by 13, that is told as the largest number.
+abbrev pub readingNumbers : Reading → ℕ → List ℕ
+readingNumbers r n = toldNumbers (answered r .told) (answered r .commands) (answered r .threads) ++ min (restAt r n) largest ∷ []
+
+-- ---- what the parts ask for
+
+-- each of the four numbers is one that a place holds
+pub record Counted (t : Told) (a b : ℕ) : Type 0 where
+  pub place : t .place ≤ largest
+  pub also : t .also ≤ largest
+  pub third : a ≤ largest
+  pub fourth : b ≤ largest
+
+-- and so is each number of a sheet's pairs
+pub record PairsCounted (ps : List Pair) : Type 0 where
+  pub many : length ps ≡ mostKept
+  pub each : (k : ℕ) → k < mostKept → (getD ps k (pair 0 0) .first ≤ largest) × (getD ps k (pair 0 0) .second ≤ largest)

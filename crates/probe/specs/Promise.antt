@@ -1,0 +1,42 @@
+-- What the doors promise. Each has one answer only (proofs/Unique). At exit a room has a prime.
+use mathlib.Core.Path.{_≡_}
+use mathlib.Core.Bool.{cond}
+use mathlib.Core.List.{List}
+use Prim.Native.Nat.{ℕ, _≤_, _<_}
+use lib.Dec.{leb}
+use lib.ListN.{length}
+use Rattle.tables.specs.Verdicts.{numbered}
+use Rattle.relation.specs.Chains.{Chain}
+use Rattle.relation.specs.Table as table
+use Rattle.relation.specs.Table.{words, Related}
+use Rattle.spelling.specs.Over.{over}
+use Rattle.notation.specs.Reading.{answered}
+use Rattle.notation.specs.Promise.{Read}
+use Rattle.notation.specs.declared.reading.Reading.{Reading}
+use Rattle.replay.specs.Doors.{Writes}
+use Rattle.replay.specs.declared.writer.Written.{Written}
+use Rattle.review.specs.Agreement.{Reviewed, number}
+use Rattle.review.specs.declared.judge.Finding.{Finding}
+use Rattle.probe.specs.Numbers.{answerRoom, findingNumbers, writtenNumbers, readingNumbers}
+
+-- The contract of `probe_review`.
+pub record ProbesReview (commands lengths schedule relation room answer relation′ room′ answer′ : List ℕ) (n : ℕ) : Type 0 where
+  -- 14: a short answer room; nothing is touched
+  pub refuses : length answer < answerRoom → (n ≡ 14) × (relation′ ≡ relation) × (room′ ≡ room) × (answer′ ≡ answer)
+  -- else what the review found, of which its own promise leaves no choice; numbers after those are kept
+  pub found : answerRoom ≤ length answer → (r : Finding) × Reviewed commands lengths schedule relation room r relation′ room′ × (n ≡ number r) × (answer′ ≡ over (findingNumbers r) answer)
+
+-- The contract of `probe_schedule`.
+pub record ProbesSchedule (commands lengths room answer room′ answer′ : List ℕ) (n : ℕ) : Type 0 where
+  pub refuses : length answer < answerRoom → (n ≡ 14) × (room′ ≡ room) × (answer′ ≡ answer)
+  pub wrote : answerRoom ≤ length answer → (r : Written) × Writes commands lengths room room′ r × (n ≡ numbered (r .verdict) .number) × (answer′ ≡ over (writtenNumbers r) answer)
+
+-- The contract of `probe_read`.
+pub record ProbesRead (text commands lengths answer commands′ lengths′ answer′ : List ℕ) (n : ℕ) : Type 0 where
+  pub refuses : length answer < answerRoom → (n ≡ 14) × (commands′ ≡ commands) × (lengths′ ≡ lengths) × (answer′ ≡ answer)
+  pub read : answerRoom ≤ length answer → (r : Reading) × Read text commands lengths commands′ lengths′ r × (n ≡ answered r .told .number) × (answer′ ≡ over (readingNumbers r (length text)) answer)
+
+-- The contract of `probe_close`: 1 where there is room for the table, which is then closed under chains, and 0 where there is none.
+pub record ProbesClose (relation : List ℕ) (m : ℕ) (relation′ : List ℕ) (n : ℕ) : Type 0 where
+  pub answers : n ≡ cond (leb (words m) (length relation)) 1 0
+  pub closed : table.Writes (Chain (Related relation m)) relation relation′ m (leb (words m) (length relation))

@@ -1,0 +1,92 @@
+// Doors for outside tests and benchmarks, as C calls them: the review, the schedule writer, the reader and the closing of a table. A slice is a pointer
+// and a length to C. `answer` is a room of at least 36 numbers; a shorter one is answered 14, before all else, and nothing is touched.
+ghost use Rattle.probe.specs.Promise.{ProbesReview, ProbesSchedule, ProbesRead, ProbesClose};
+use crate::answer::Answer;
+use crate::answer::cut;
+use crate::answer::put_sheet;
+use crate::answer::put_told;
+use crate::counts::counts_of;
+use notation::read;
+use notation::rest;
+use relation::close;
+use replay::write_schedule;
+use review::review;
+
+mod answer; // numbers into the answer room
+mod counts; // how many commands and threads a reading found
+
+// The verdict's number. `answer` gets its two places, the total, 0, and both numbers of each of the sheet's sixteen pairs.
+#[no_mangle]
+pub extern "C" fn probe_review(
+    commands: &[u32],
+    lengths: &[u32],
+    schedule: &[u32],
+    relation: &mut [u32],
+    generations: &mut [u32],
+    answer: &mut [u32],
+) -> u32
+    ensures { λ n. ⌜ ProbesReview (now (commands .entry)) (now (lengths .entry)) (now (schedule .entry)) (now (relation .entry)) (now (generations .entry)) (now (answer .entry)) (now (relation .exit)) (now (generations .exit)) (now (answer .exit)) n ⌝ }
+{
+    if answer.len() < Answer::NUMBERS {
+        return 14;
+    }
+    let found = review(commands, lengths, schedule, relation, generations);
+    let verdict = found.verdict;
+    let sheet = found.sheet;
+    let told = verdict.number();
+    put_told(answer, told, sheet.total, 0);
+    put_sheet(answer, sheet);
+    told.number
+}
+
+// 1 to 4, or 0. `answer` gets the two places, the schedule's length, and 0.
+#[no_mangle]
+pub extern "C" fn probe_schedule(
+    commands: &[u32],
+    lengths: &[u32],
+    room: &mut [u32],
+    answer: &mut [u32],
+) -> u32
+    ensures { λ n. ⌜ ProbesSchedule (now (commands .entry)) (now (lengths .entry)) (now (room .entry)) (now (answer .entry)) (now (room .exit)) (now (answer .exit)) n ⌝ }
+{
+    if answer.len() < Answer::NUMBERS {
+        return 14;
+    }
+    let written = write_schedule(commands, lengths, room);
+    let verdict = written.verdict;
+    let told = verdict.number();
+    put_told(answer, told, written.length, 0);
+    told.number
+}
+
+// 12, 13 or 0. `answer` gets the two places, the numbers of commands and threads, and where the rest of the text begins.
+#[no_mangle]
+pub extern "C" fn probe_read(
+    text: &[u8],
+    commands: &mut [u32],
+    lengths: &mut [u32],
+    answer: &mut [u32],
+) -> u32
+    ensures { λ n. ⌜ ProbesRead (now (text .entry)) (now (commands .entry)) (now (lengths .entry)) (now (answer .entry)) (now (commands .exit)) (now (lengths .exit)) (now (answer .exit)) n ⌝ }
+{
+    if answer.len() < Answer::NUMBERS {
+        return 14;
+    }
+    let reading = read(text, commands, lengths);
+    let told = reading.number();
+    let found = counts_of(reading);
+    put_told(answer, told, found.commands, found.threads);
+    answer[4] = cut(text.len() - rest(text, reading).len());
+    told.number
+}
+
+// 1 where the table of so many rows was closed, 0 where the room is short for it.
+#[no_mangle]
+pub extern "C" fn probe_close(relation: &mut [u32], rows: u32) -> u32
+    ensures { λ n. ⌜ ProbesClose (now (relation .entry)) rows (now (relation .exit)) n ⌝ }
+{
+    if close(relation, rows) {
+        return 1;
+    }
+    0
+}
