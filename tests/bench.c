@@ -191,7 +191,7 @@ static void try_edges(void)
 
 static void review_file(const char *path)
 {
-    static uint8_t text[65536];
+    static uint8_t text[65536]; /* more than a text may have; of a longer file the rest is not looked at */
     uint8_t out[MOST_ROOM];
     uint32_t answer;
     reviewing = path;

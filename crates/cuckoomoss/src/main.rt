@@ -1,5 +1,6 @@
 // Reads one text from standard input and prints its report. An error of reading or writing is told on standard error, and is never taken for an end.
 mod input; // a text from a descriptor, and what failed
+
 use input::Came;
 use input::Input;
 use input::fill;
@@ -21,7 +22,7 @@ fn before_zero(room: &[u8]) -> usize
     i
 }
 
-// Reviews a text and prints the report.
+// Reviews a text and prints the report, from a room of the size that the text review asks for.
 fn print_review(text: &[u8]) {
     let mut report = [0u8; 192];
     desk::review_text(text, &mut report);
