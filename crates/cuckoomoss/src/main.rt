@@ -1,12 +1,12 @@
 // Reads one text from standard input and prints its report. An error of reading or writing is told on standard error, and is never taken for an end.
-mod input; // a text from a descriptor, and what failed
-
+ghost use Rattle.io.specs.Counts.{Counts};
 use input::Came;
 use input::Input;
 use input::fill;
 use libc::STDIN_FILENO;
 use libc::STDOUT_FILENO;
-ghost use Rattle.io.specs.Counts.{Counts};
+
+mod input; // a text from a descriptor
 
 // How many bytes stand before the first zero. The report room begins as zeros and a report has none, so that is where the report ends.
 fn before_zero(room: &[u8]) -> usize
