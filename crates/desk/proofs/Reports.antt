@@ -24,7 +24,7 @@ use Rattle.desk.specs.declared.conclusion.Conclusion.{Conclusion}
 use Rattle.desk.specs.Conclusion.{bare, toldOf, pairsOf, ofTables, readAs, ofText}
 use Rattle.desk.specs.Report.{leastRoom, report}
 use Rattle.desk.specs.Promise.{TextReviewed}
-use Rattle.desk.proofs.Fits.{Short, report-fits}
+use Rattle.desk.proofs.Fits.{Short, longest, longest-fits, report-short}
 use Rattle.desk.proofs.Demands.{taken, read-told, text-judged, text-numbers}
 
 -- small numbers
@@ -92,8 +92,11 @@ few-text text = by (eqb (readAs text .number) 0)
     by true = few-tables (rowNumbers text) (threadLengths text)
     by false = rw (read-told text refl) (few-reading text (taken text) (reads-means text (mostRows * 3) mostThreads))
 
-pub text-fits : (text : List ℕ) → length (report (ofText text)) ≤ leastRoom
-text-fits text = let f = few-text text in report-fits (ofText text) (f .number) (f .place) (f .also) (f .total) (f .pairs)
+pub text-short : (text : List ℕ) → length (report (ofText text)) ≤ longest
+text-short text = let f = few-text text in report-short (ofText text) (f .number) (f .place) (f .also) (f .total) (f .pairs)
+
+text-fits : (text : List ℕ) → length (report (ofText text)) ≤ leastRoom
+text-fits text = omega (arith, text-short text, longest-fits)
 
 -- what `review_text` has found at its two returns
 module _ (text room : List ℕ) where
