@@ -2,7 +2,7 @@
 use mathlib.Core.Path.{_≡_, refl, sym, ap, subst, _∙_}
 use mathlib.Core.Bool.{Bool, true, false, cond}
 use mathlib.Core.Logic.{_⊎_, inl, inr, ⊎-elim, by-cases, _≢_}
-use mathlib.Core.List.{List, []}
+use mathlib.Core.List.{List}
 use Prim.Native.Nat.{ℕ, _*_, _≤_, _<_}
 use native.Mathlib.Omega.{arith}
 use native.Mathlib.Decide.{decLt}
@@ -10,23 +10,22 @@ use lib.ListN.{length}
 use borrow.Author.Tests.{eq-eqb, ne-eqb}
 use Rattle.tables.specs.Limits.{mostRows, mostThreads}
 use Rattle.tables.specs.Rules.{Keeps, checked}
-use Rattle.tables.specs.Verdicts.{tell}
 use Rattle.tables.specs.declared.verdict.Told.{Told}
 use Rattle.tables.proofs.Rules.{kept, passes, passes-zero}
 use Rattle.spelling.specs.Machine.{Outcome, flat}
 use Rattle.notation.specs.declared.reading.Reading.{Reading}
 use Rattle.notation.specs.declared.reading.Reading.the-variants.{Unfit, Over, Accepted}
-use Rattle.notation.specs.Grammar.{Program, Denotes, joined, threads, programRows, programLengths}
+use Rattle.notation.specs.Grammar.{Program, Denotes, joined, threads, programLengths}
 use Rattle.notation.specs.Reading.{mostBytes, Answer, answered, rowNumbers, threadLengths}
 use Rattle.notation.specs.Promise.{Within}
 use Rattle.notation.proofs.Readings.{denoted-found, Stands, reads, answered-reads, denoted-reads, reads-means}
 use Rattle.notation.proofs.Tabled.{program-checked}
 use Rattle.replay.specs.Writer.{schedule}
-use Rattle.replay.specs.Schedules.{Complete, Agree, Disagree}
+use Rattle.replay.specs.Schedules.{Complete}
 use Rattle.replay.proofs.Writing.{schedule-complete}
 use Rattle.review.specs.Sheet.{sheetOf}
 use Rattle.review.specs.Judge.{fills}
-use Rattle.review.specs.Agreement.{SameOrder, Judges}
+use Rattle.review.specs.Agreement.{Judges}
 use Rattle.review.proofs.Judging.{judges}
 use Rattle.review.proofs.Bounds.{refused-checked, passed-told, complete-number}
 use Rattle.desk.specs.declared.conclusion.Conclusion.{Conclusion}
