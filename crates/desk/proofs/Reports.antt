@@ -25,7 +25,7 @@ use Rattle.desk.specs.Conclusion.{bare, toldOf, pairsOf, ofTables, readA
 use Rattle.desk.specs.Report.{leastRoom, report}
 use Rattle.desk.specs.Promise.{TextReviewed}
 use Rattle.desk.proofs.Fits.{Short, longest, longest-fits, report-short}
-use Rattle.desk.proofs.Demands.{taken, read-told, text-judged, text-numbers}
+use Rattle.desk.proofs.Demands.{taken, read-told, text-judged, text-possible}
 
 -- small numbers
 record Few (c : Conclusion) : Type 0 where
@@ -107,7 +107,7 @@ module _ (text room : List ℕ) where
         answers = λ h. absurd (omega arith);
         prints = λ h. absurd (omega arith);
         fits = text-fits text;
-        numbers-are = λ h. absurd (omega arith);
+        possible = λ h. absurd (omega arith);
         demand₃ = λ h. absurd (omega arith);
       }
 
@@ -119,7 +119,7 @@ module _ (text room : List ℕ) where
         answers = λ _. e;
         prints = λ _. p;
         fits = text-fits text;
-        numbers-are = λ _. rw e (text-numbers text);
+        possible = λ _. rw e (text-possible text);
         demand₃ = λ _. rw e (text-judged text);
       }
 
