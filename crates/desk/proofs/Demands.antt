@@ -2,7 +2,7 @@
 use mathlib.Core.Path.{_≡_, refl, sym, ap, subst, _∙_}
 use mathlib.Core.Bool.{Bool, true, false, cond}
 use mathlib.Core.Logic.{_⊎_, inl, inr, ⊎-elim, by-cases, _≢_}
-use mathlib.Core.List.{List, []}
+use mathlib.Core.List.{List}
 use Prim.Native.Nat.{ℕ, _*_, _≤_, _<_}
 use native.Mathlib.Omega.{arith}
 use native.Mathlib.Decide.{decLt}
@@ -10,28 +10,27 @@ use lib.ListN.{length}
 use borrow.Author.Tests.{eq-eqb, ne-eqb}
 use Rattle.tables.specs.Limits.{mostRows, mostThreads}
 use Rattle.tables.specs.Rules.{Keeps, checked}
-use Rattle.tables.specs.Verdicts.{tell}
 use Rattle.tables.specs.declared.verdict.Told.{Told}
 use Rattle.tables.proofs.Rules.{kept, passes, passes-zero}
 use Rattle.spelling.specs.Machine.{Outcome, flat}
 use Rattle.notation.specs.declared.reading.Reading.{Reading}
 use Rattle.notation.specs.declared.reading.Reading.the-variants.{Unfit, Over, Accepted}
-use Rattle.notation.specs.Grammar.{Program, Denotes, joined, threads, programRows, programLengths}
+use Rattle.notation.specs.Grammar.{Program, Denotes, joined, threads, programLengths}
 use Rattle.notation.specs.Reading.{mostBytes, Answer, answered, rowNumbers, threadLengths}
 use Rattle.notation.specs.Promise.{Within}
 use Rattle.notation.proofs.Readings.{denoted-found, Stands, reads, answered-reads, denoted-reads, reads-means}
 use Rattle.notation.proofs.Tabled.{program-checked}
 use Rattle.replay.specs.Writer.{schedule}
-use Rattle.replay.specs.Schedules.{Complete, Agree, Disagree}
+use Rattle.replay.specs.Schedules.{Complete}
 use Rattle.replay.proofs.Writing.{schedule-complete}
 use Rattle.review.specs.Sheet.{sheetOf}
 use Rattle.review.specs.Judge.{fills}
-use Rattle.review.specs.Agreement.{SameOrder, Judges}
+use Rattle.review.specs.Agreement.{Judges}
 use Rattle.review.proofs.Judging.{judges}
 use Rattle.review.proofs.Bounds.{refused-checked, passed-told, complete-number}
 use Rattle.desk.specs.declared.conclusion.Conclusion.{Conclusion}
 use Rattle.desk.specs.Conclusion.{bare, toldOf, pairsOf, ofTables, readAs, ofText}
-use Rattle.desk.specs.Promise.{numbers, Sound, JudgesText, Numbers}
+use Rattle.desk.specs.Promise.{numbers, Reviewable, JudgesText, Possible}
 
 pub tables-told : (commands lengths : List ℕ) → ofTables commands lengths .told ≡ toldOf commands lengths
 unfolding ofTables
@@ -72,8 +71,8 @@ module _ (text : List ℕ) where
     denoted-told : ofText text .told ≡ toldOf n l
     denoted-told = ap (λ (k : Conclusion). k .told) denoted-concluded ∙ tables-told n l
 
-  -- a sound text is judged by the writer's schedule
-  module _ {x : Program} (S : Sound text x) where
+  -- a reviewable text is judged by the writer's schedule
+  module _ {x : Program} (S : Reviewable text x) where
     passed : checked (numbers x) (programLengths x) .number ≡ 0
     passed = ap (λ (t : Told). t .number) (S .keeps)
 
@@ -86,19 +85,19 @@ module _ (text : List ℕ) where
     complete : Complete (numbers x) (programLengths x) σ
     complete = schedule-complete keeps
 
-    sound-judges : Judges (numbers x) (programLengths x) σ number
-    sound-judges =
+    reviewable-judges : Judges (numbers x) (programLengths x) σ number
+    reviewable-judges =
         subst (Judges (numbers x) (programLengths x) σ) (ap (λ (t : Told). t .number) (sym (denoted-told x (S .denotes) (S .within) ∙ passed-told (numbers x) (programLengths x) passed σ)))
         (judges keeps σ)
 
-    sound-number : (number ≡ 0) ⊎ ((7 ≤ number) × (number ≤ 11))
-    sound-number =
+    reviewable-number : (number ≡ 0) ⊎ ((7 ≤ number) × (number ≤ 11))
+    reviewable-number =
         subst (λ (t : Told). (t .number ≡ 0) ⊎ ((7 ≤ t .number) × (t .number ≤ 11))) (sym (denoted-told x (S .denotes) (S .within)))
         (complete-number (numbers x) (programLengths x) passed σ complete)
 
   -- what a text is
   data Kind : Type 0 where
-    sound : (x : Program) → Sound text x → Kind
+    reviewable : (x : Program) → Reviewable text x → Kind
     broken : number ≡ 3 → Kind
     unread : number ≡ 12 → Kind
     over : number ≡ 13 → (mostBytes < length text) ⊎ ((x : Program) × Denotes text x × ¬ Within text (mostRows * 3) mostThreads x) → Kind
@@ -117,20 +116,20 @@ module _ (text : List ℕ) where
       by Over e s = over (refused-told (read-told e) (λ z. omega arith)) s
       by (Accepted m t) e (x, d, w) =
           ⊎-elim
-          (λ (z : checked (numbers x) (programLengths x) .number ≡ 0). sound x (record { denotes = d; within = w; keeps = kept (numbers x) (programLengths x) (passes-zero (numbers x) (programLengths x) z) }))
+          (λ (z : checked (numbers x) (programLengths x) .number ≡ 0). reviewable x (record { denotes = d; within = w; keeps = kept (numbers x) (programLengths x) (passes-zero (numbers x) (programLengths x) z) }))
           (λ (h : checked (numbers x) (programLengths x) .number ≡ 3).
           broken (ap (λ (t : Told). t .number) (denoted-told x d w ∙ refused-checked (numbers x) (programLengths x) (λ z. omega arith) (schedule (numbers x) (programLengths x)) _ _) ∙ h))
           (program-checked x (w .few-rows) (w .few-threads))
 
-  -- where a number is one of a sound text's, the text is sound
-  is-sound : (number ≡ 0) ⊎ ((7 ≤ number) × (number ≤ 11)) → (x : Program) × Sound text x
-  is-sound h = by kind
+  -- where a number is one of a reviewable text's, the text is reviewable
+  is-reviewable : (number ≡ 0) ⊎ ((7 ≤ number) × (number ≤ 11)) → (x : Program) × Reviewable text x
+  is-reviewable h = by kind
     where
       most : (number < 12) × (number ≢ 3)
       most = ⊎-elim (λ (e : number ≡ 0). (omega arith, λ z. omega arith)) (λ (l : (7 ≤ number) × (number ≤ 11)). (omega (arith, l .1), λ z. omega (arith, l .0))) h
 
-      by : Kind → (x : Program) × Sound text x
-      by (sound x S) = (x, S)
+      by : Kind → (x : Program) × Reviewable text x
+      by (reviewable x S) = (x, S)
       by (broken e) = absurd (most .1 e)
       by (unread e) = absurd (omega (arith, most .0))
       by (over e _) = absurd (omega (arith, most .0))
@@ -140,21 +139,21 @@ module _ (text : List ℕ) where
       record {
         agreement = (
           λ h.
-              let (x, S) = is-sound (⊎-elim inl (λ (e : number ≡ 11). inr (omega arith, omega arith)) h) in
-              (x, S, sound-judges S .agreement .0 h .1),
-          λ (x, S, A). sound-judges S .agreement .1 (complete S, A),
+              let (x, S) = is-reviewable (⊎-elim inl (λ (e : number ≡ 11). inr (omega arith, omega arith)) h) in
+              (x, S, reviewable-judges S .agreement .0 h .1),
+          λ (x, S, A). reviewable-judges S .agreement .1 (complete S, A),
         );
         order = (
           λ h.
-              let (x, S) = is-sound (inl h) in
-              let (_, A, O) = sound-judges S .order .0 h in
+              let (x, S) = is-reviewable (inl h) in
+              let (_, A, O) = reviewable-judges S .order .0 h in
               (x, S, A, O),
-          λ (x, S, A, O). sound-judges S .order .1 (complete S, A, O),
+          λ (x, S, A, O). reviewable-judges S .order .1 (complete S, A, O),
         );
         disagreement =
             λ a b.
-            let (x, S) = is-sound (inr (a, omega arith)) in
-            (x, S, sound-judges S .disagreement a b);
+            let (x, S) = is-reviewable (inr (a, omega arith)) in
+            (x, S, reviewable-judges S .disagreement a b);
       }
 
   -- what is not within the limits
@@ -166,14 +165,14 @@ module _ (text : List ℕ) where
       (λ (t : ¬ (mostThreads < length (threads x))).
       absurd (w (record { bytes = b; few-rows = omega arith; few-threads = omega arith; room = omega arith; places = omega arith }))))
 
-  pub text-numbers : Numbers text number
-  text-numbers = by kind
+  pub text-possible : Possible text number
+  text-possible = by kind
     where
-      by : Kind → Numbers text number
-      by (sound x S) =
+      by : Kind → Possible text number
+      by (reviewable x S) =
           ⊎-elim (λ (e : number ≡ 0). record { some = inl e; too-much = λ z. absurd (omega arith) })
           (λ (l : (7 ≤ number) × (number ≤ 11)). record { some = inr (inr (l .0, omega (arith, l .1))); too-much = λ z. absurd (omega (arith, l .1)) })
-          (sound-number S)
+          (reviewable-number S)
       by (broken e) = record { some = inr (inl e); too-much = λ z. absurd (omega arith) }
       by (unread e) = record { some = inr (inr (omega arith, omega arith)); too-much = λ z. absurd (omega arith) }
       by (over e s) =

@@ -1,4 +1,4 @@
--- Any report has room: numbers are short. Assumes nothing.
+-- How long a report is whose numbers are small. Assumes nothing.
 use mathlib.Core.List.{List, [], _∷_}
 use Prim.Native.Nat.{ℕ, zero, suc, _*_, _≤_, _<_, min}
 use native.Mathlib.Omega.{arith}
@@ -31,10 +31,17 @@ pairs-short (suc n) (p ∷ ps) h =
     )
 
 -- 27 and 13 bytes at most, and sixteen lines of pairs
-pub report-fits : (c : Conclusion) → c .told .number < 100 → c .told .place < 100000 → c .told .also < 1000 → c .sheet .total < 1000000
-    → ((k : ℕ) → k < mostKept → Short (getD (c .sheet .pairs) k (pair 0 0))) → length (report c) ≤ leastRoom
-unfolding mostKept leastRoom
-report-fits c n p a t h =
+unfoldable pub longest : ℕ
+longest = 168
+
+pub longest-fits : longest ≤ leastRoom
+unfolding longest leastRoom
+longest-fits = omega arith
+
+pub report-short : (c : Conclusion) → c .told .number < 100 → c .told .place < 100000 → c .told .also < 1000 → c .sheet .total < 1000000
+    → ((k : ℕ) → k < mostKept → Short (getD (c .sheet .pairs) k (pair 0 0))) → length (report c) ≤ longest
+unfolding mostKept longest
+report-short c n p a t h =
     omega (
       arith,
       report-long c,

@@ -8,27 +8,18 @@ use native.Mathlib.Omega.{arith}
 use lib.ListN.{length, set, take, getD, length-append}
 use lib.Seq.{length-take-le, take-suc, take-all, sets, sets-eq, length-sets}
 use Rattle.spelling.specs.Over.{over}
-use Rattle.desk.specs.Placed.{placed, Puts}
+use Rattle.desk.specs.Putting.{Puts}
 
--- ---- what is placed
+-- ---- a run of stores
 
-placed-sets : (at : ℕ) (w room : List ℕ) → placed at w room ≡ sets room at w
-unfolding placed
-placed-sets at [] room = refl
-placed-sets at (b ∷ w) room = placed-sets (suc at) w (set room at b)
-
-placed-length : (at : ℕ) (w room : List ℕ) → length (placed at w room) ≡ length room
-placed-length at w room = ap length (placed-sets at w room) ∙ length-sets room at w
-
-placed-append : (at : ℕ) (a b room : List ℕ) → placed at (a ++ b) room ≡ placed (at + length a) b (placed at a room)
-unfolding placed
-placed-append at [] b room = rw (add-zero at)
-placed-append at (x ∷ a) b room =
+sets-append : (room : List ℕ) (at : ℕ) (a b : List ℕ) → sets room at (a ++ b) ≡ sets (sets room at a) (at + length a) b
+sets-append room at [] b = rw (add-zero at)
+sets-append room at (x ∷ a) b =
     let e : suc at + length a ≡ at + suc (length a) = omega arith in
-    placed-append (suc at) a b (set room at x) ∙ ap (λ (k : ℕ). placed k b (placed (suc at) a (set room at x))) e
+    sets-append (set room at x) (suc at) a b ∙ ap (λ (k : ℕ). sets (sets (set room at x) (suc at) a) k b) e
 
-placed-over : (w room : List ℕ) → length w ≤ length room → placed 0 w room ≡ over w room
-placed-over w room h = placed-sets 0 w room ∙ sets-eq w room 0 (omega arith) ∙ rw (zero-on (length w))
+sets-over : (w room : List ℕ) → length w ≤ length room → sets room 0 w ≡ over w room
+sets-over w room h = sets-eq w room 0 (omega arith) ∙ rw (zero-on (length w))
   where
     zero-on : (n : ℕ) → 0 + n ≡ n
     zero-on n = omega arith
@@ -36,27 +27,25 @@ placed-over w room h = placed-sets 0 w room ∙ sets-eq w room 0 (omega arith) �
 -- ---- puts one after another
 
 pub puts-none : (room : List ℕ) (at : ℕ) → Puts room room at [] at
-unfolding placed
 puts-none room at = record { room = refl; on = omega arith }
 
 pub puts-one : (room : List ℕ) (at b : ℕ) → Puts room (set room at b) at (b ∷ []) (at + 1)
-unfolding placed
 puts-one room at b = record { room = refl; on = omega arith }
 
 module _ {before mid after : List ℕ} {at n k : ℕ} {a b : List ℕ} where
   pub puts-on : Puts before mid at a n → Puts mid after n b k → Puts before after at (a ++ b) k
   puts-on p q =
       record {
-        room = q .room ∙ rw (p .room, p .on) (sym (placed-append at a b before));
+        room = q .room ∙ rw (p .room, p .on) (sym (sets-append before at a b));
         on = omega (arith, p .on, q .on, length-append a b);
       }
 
 module _ {before after : List ℕ} {at n : ℕ} {w : List ℕ} (p : Puts before after at w n) where
   pub puts-long : length after ≡ length before
-  puts-long = ap length (p .room) ∙ placed-length at w before
+  puts-long = ap length (p .room) ∙ length-sets before at w
 
 pub puts-over : {before after w : List ℕ} {n : ℕ} → Puts before after 0 w n → length w ≤ length before → after ≡ over w before
-puts-over {before} {w = w} p h = p .room ∙ placed-over w before h
+puts-over {before} {w = w} p h = p .room ∙ sets-over w before h
 
 -- ---- a list put byte by byte
 

@@ -24,8 +24,8 @@ use Rattle.desk.specs.declared.conclusion.Conclusion.{Conclusion}
 use Rattle.desk.specs.Conclusion.{bare, toldOf, pairsOf, ofTables, readAs, ofText}
 use Rattle.desk.specs.Report.{leastRoom, report}
 use Rattle.desk.specs.Promise.{TextReviewed}
-use Rattle.desk.proofs.Fits.{Short, report-fits}
-use Rattle.desk.proofs.Demands.{taken, read-told, text-judged, text-numbers}
+use Rattle.desk.proofs.Fits.{Short, longest, longest-fits, report-short}
+use Rattle.desk.proofs.Demands.{taken, read-told, text-judged, text-possible}
 
 -- small numbers
 record Few (c : Conclusion) : Type 0 where
@@ -92,8 +92,11 @@ few-text text = by (eqb (readAs text .number) 0)
     by true = few-tables (rowNumbers text) (threadLengths text)
     by false = rw (read-told text refl) (few-reading text (taken text) (reads-means text (mostRows * 3) mostThreads))
 
-pub text-fits : (text : List ℕ) → length (report (ofText text)) ≤ leastRoom
-text-fits text = let f = few-text text in report-fits (ofText text) (f .number) (f .place) (f .also) (f .total) (f .pairs)
+pub text-short : (text : List ℕ) → length (report (ofText text)) ≤ longest
+text-short text = let f = few-text text in report-short (ofText text) (f .number) (f .place) (f .also) (f .total) (f .pairs)
+
+text-fits : (text : List ℕ) → length (report (ofText text)) ≤ leastRoom
+text-fits text = omega (arith, text-short text, longest-fits)
 
 -- what `review_text` has found at its two returns
 module _ (text room : List ℕ) where
@@ -104,7 +107,7 @@ module _ (text room : List ℕ) where
         answers = λ h. absurd (omega arith);
         prints = λ h. absurd (omega arith);
         fits = text-fits text;
-        numbers-are = λ h. absurd (omega arith);
+        possible = λ h. absurd (omega arith);
         demand₃ = λ h. absurd (omega arith);
       }
 
@@ -116,7 +119,7 @@ module _ (text room : List ℕ) where
         answers = λ _. e;
         prints = λ _. p;
         fits = text-fits text;
-        numbers-are = λ _. rw e (text-numbers text);
+        possible = λ _. rw e (text-possible text);
         demand₃ = λ _. rw e (text-judged text);
       }
 

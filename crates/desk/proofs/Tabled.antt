@@ -12,7 +12,7 @@ use borrow.Author.Tests.{eq-eqb, le-ltb}
 use Rattle.tables.specs.Limits.{mostRows, mostThreads}
 use Rattle.tables.specs.Rows.{rows}
 use Rattle.tables.specs.Rules.{checked}
-use Rattle.tables.specs.Verdicts.{tell, numbered}
+use Rattle.tables.specs.Verdicts.{numbered}
 use Rattle.tables.proofs.Rules.{passes-zero, checked-small}
 use Rattle.relation.specs.Table.{width, words}
 use Rattle.replay.specs.declared.writer.Written.{Written}
@@ -21,7 +21,7 @@ use Rattle.tables.specs.declared.verdict.Told.{Told}
 use Rattle.replay.specs.Writer.{schedule, unwritten, Filled}
 use Rattle.review.specs.declared.judge.Finding.{Finding}
 use Rattle.review.specs.Agreement.{Reviewed}
-use Rattle.review.specs.Judge.{verdictOf, faultPairs, generations, reaches, fills}
+use Rattle.review.specs.Judge.{fills}
 use Rattle.review.specs.Sheet.{sheetOf}
 use Rattle.review.proofs.Reviews.{no-fill}
 use Rattle.review.proofs.Bounds.{refused-checked}

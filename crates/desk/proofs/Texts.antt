@@ -1,5 +1,5 @@
 -- A text read into full tables, and what is concluded from it. Assumes nothing.
-use mathlib.Core.Path.{_≡_, refl, sym, ap, _∙_}
+use mathlib.Core.Path.{_≡_, sym, ap, _∙_}
 use mathlib.Core.Logic.{_≢_}
 use mathlib.Core.List.{List, [], _∷_}
 use Prim.Native.Nat.{ℕ, _*_, _≤_}
@@ -10,14 +10,12 @@ use borrow.Author.Tests.{eq-eqb, ne-eqb}
 use types.Run.{OneOf, miss}
 use denote.Enum.Declared
 use Rattle.tables.specs.Limits.{mostRows, mostThreads}
-use Rattle.tables.specs.Verdicts.{tell}
 use Rattle.tables.specs.declared.verdict.Told.{Told}
 use Rattle.spelling.specs.Machine.{flat, Outcome}
-use Rattle.spelling.specs.Over.{over}
 use Rattle.notation.specs.declared.reading.Reading.{Reading}
 use Rattle.notation.specs.declared.reading.Reading.the-variants.{Unfit, Over, Accepted}
-use Rattle.notation.specs.Grammar.{Command, rowOf, joined, threads, programRows, programLengths}
-use Rattle.notation.specs.Reading.{rowNumbers, threadLengths, Answer, answered, reading}
+use Rattle.notation.specs.Grammar.{Command, joined, threads, programRows, programLengths}
+use Rattle.notation.specs.Reading.{rowNumbers, threadLengths, Answer, answered}
 use Rattle.notation.specs.Promise.{Read}
 use Rattle.notation.proofs.Readings.{denoted-found}
 use Rattle.notation.proofs.Tabled.{program-long}

@@ -1,5 +1,5 @@
 pub mod Figures  -- numbers in decimal
 pub mod Conclusion  -- what the review of a text tells
 pub mod Report  -- the report's bytes
-pub mod Placed  -- a room that bytes are put into
+pub mod Putting  -- bytes put into a room
 pub mod Promise  -- what the text review promises

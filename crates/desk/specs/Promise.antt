@@ -25,7 +25,7 @@ abbrev pub numbers : Program → List ℕ
 numbers x = flat (programRows x)
 
 -- The text denotes the program, which is within the limits, and its rows keep the rules.
-pub record Sound (text : List ℕ) (x : Program) : Type 0 where
+pub record Reviewable (text : List ℕ) (x : Program) : Type 0 where
   pub denotes : Denotes text x
   pub within : Within text (mostRows * 3) mostThreads x
   pub keeps : checked (numbers x) (programLengths x) ≡ tell 0 0 0
@@ -33,15 +33,15 @@ pub record Sound (text : List ℕ) (x : Program) : Type 0 where
 -- Demand 3, of a text and the number that it is answered with.
 pub record JudgesText (text : List ℕ) (n : ℕ) : Type 0 where
   -- 0 or 11 exactly when every legal complete schedule of the text's program ends clean with the same generation for each command
-  pub agreement : ((n ≡ 0) ⊎ (n ≡ 11)) ↔ ((x : Program) × Sound text x × Agree (numbers x) (programLengths x))
+  pub agreement : ((n ≡ 0) ⊎ (n ≡ 11)) ↔ ((x : Program) × Reviewable text x × Agree (numbers x) (programLengths x))
   -- 0 exactly when, besides, every two conflicting accesses stand in the same order in all of them
-  pub order : (n ≡ 0) ↔ ((x : Program) × Sound text x × Agree (numbers x) (programLengths x) × SameOrder (numbers x) (programLengths x))
+  pub order : (n ≡ 0) ↔ ((x : Program) × Reviewable text x × Agree (numbers x) (programLengths x) × SameOrder (numbers x) (programLengths x))
   -- 7 to 10 only where that agreement fails
-  pub disagreement : 7 ≤ n → n ≤ 10 → (x : Program) × Sound text x × Disagree (numbers x) (programLengths x)
+  pub disagreement : 7 ≤ n → n ≤ 10 → (x : Program) × Reviewable text x × Disagree (numbers x) (programLengths x)
 
 -- Which numbers there are. Its rooms are full ones, so it never answers 4, and 13 only past the limits; its tables are of the reader's making
 -- and its schedule of the writer's, so 1, 2, 5 and 6 don't come either.
-pub record Numbers (text : List ℕ) (n : ℕ) : Type 0 where
+pub record Possible (text : List ℕ) (n : ℕ) : Type 0 where
   pub some : (n ≡ 0) ⊎ (n ≡ 3) ⊎ ((7 ≤ n) × (n ≤ 13))
   pub too-much : n ≡ 13
       → (mostBytes < length text)
@@ -56,7 +56,7 @@ pub record TextReviewed (text room room′ : List ℕ) (n : ℕ) : Type 0 where
   pub prints : leastRoom ≤ length room → room′ ≡ over (report (ofText text)) room
   -- any report has room
   pub fits : length (report (ofText text)) ≤ leastRoom
-  pub numbers-are : leastRoom ≤ length room → Numbers text n
+  pub possible : leastRoom ≤ length room → Possible text n
   pub demand₃ : leastRoom ≤ length room → JudgesText text n
 
 -- A report tells its conclusion again, whatever stands after it in the room: verdict, places, total and kept pairs.

@@ -3,7 +3,7 @@ ghost use Prim.Native.Nat.{_+_, _≤_, _<_};
 ghost use mathlib.Core.List.{[], _∷_};
 ghost use lib.ListN.{length};
 ghost use Rattle.desk.specs.Figures.{figures};
-ghost use Rattle.desk.specs.Placed.{Puts};
+ghost use Rattle.desk.specs.Putting.{Puts};
 
 fn put_byte(room: &mut [u8], at: usize, byte: u8) -> usize
     requires { ⌜ at < length (now room) ⌝ }

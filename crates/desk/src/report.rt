@@ -3,7 +3,7 @@ ghost use mathlib.Core.Path.{_≡_};
 ghost use Prim.Native.Nat.{_+_, _≤_, min};
 ghost use lib.ListN.{length};
 ghost use Rattle.spelling.specs.Over.{over};
-ghost use Rattle.desk.specs.Placed.{Puts};
+ghost use Rattle.desk.specs.Putting.{Puts};
 ghost use Rattle.desk.specs.Report.{twoNumbers, verdictLine, totalLine, pairLines, kept, report};
 use crate::conclusion::Conclusion;
 use crate::put::put;

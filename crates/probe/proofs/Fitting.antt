@@ -1,37 +1,30 @@
 -- What is told fits the places of an answer room: no cast loses a bit. Assumes nothing.
 use mathlib.Core.Path.{_≡_, refl, sym, ap, _∙_}
 use mathlib.Core.Logic.{⊎-elim, by-cases, _≢_}
-use mathlib.Core.Bool.{Bool, true, false, cond, not}
+use mathlib.Core.Bool.{Bool, true, false, cond}
 use mathlib.Core.List.{List, [], _∷_}
-use Prim.Native.Nat.{ℕ, zero, suc, _%_, _≤_}
+use Prim.Native.Nat.{ℕ, zero, suc, _≤_}
 use native.Mathlib.Decide.{ℕ-discrete}
 use native.Mathlib.Omega.{arith}
-use lib.Dec.{eqb, ltb}
-use lib.ListN.{length, length-reverse}
-use mathlib.Mathlib.Data.Bool.Basic.{or-eq-false-eq-eq-false-and-eq-false}
-use borrow.Author.Tests.{ltb-false}
+use lib.Dec.{ltb}
+use lib.ListN.{length}
 use Rattle.tables.specs.Limits.{mostRows, mostThreads}
 use Rattle.tables.specs.Rows.{rows}
-use Rattle.tables.specs.Rules.{firstBad, badCommands, badLengths, checked, Keeps}
+use Rattle.tables.specs.Rules.{checked}
 use Rattle.tables.specs.Verdicts.{tell, numbered}
 use Rattle.tables.specs.declared.verdict.Told.{Told}
-use Rattle.tables.proofs.Rules.{first-bad, passes-zero}
+use Rattle.tables.proofs.Rules.{passes-zero}
 use Rattle.relation.proofs.Truth.{split}
 use Rattle.notation.specs.Grammar.{joined, threads}
 use Rattle.notation.specs.Reading.{mostBytes, answered, restAt}
 use Rattle.notation.specs.Promise.{Read}
 use Rattle.notation.specs.declared.reading.Reading.{Reading}
 use Rattle.notation.specs.declared.reading.Reading.the-variants.{Unfit, Over, Accepted}
-use Rattle.schedules.specs.Threads as T
-use Rattle.replay.specs.Program.{program}
 use Rattle.replay.specs.Writer.{unwritten, shortRoom}
-use Rattle.replay.specs.Schedules.{Complete}
 use Rattle.replay.specs.Doors.{Writes}
 use Rattle.replay.specs.declared.writer.Written.{Written}
-use Rattle.replay.proofs.Programs as programs
-use Rattle.replay.proofs.Refusals.{or-first}
-use Rattle.replay.proofs.Few.{legal-few, steps-few}
-use Rattle.replay.proofs.Schedules.{complete-to}
+use Rattle.replay.proofs.Refusals.{or-first, or-either}
+use Rattle.replay.proofs.Places.{Placed, placed, checked-placed, schedule-few}
 use Rattle.review.specs.Sheet.{mostKept, firsts, sheetOf}
 use Rattle.review.specs.Judge.{fills}
 use Rattle.review.specs.Agreement.{Reviewed, number}
@@ -75,41 +68,14 @@ module _ {commands lengths σ relation room : List ℕ} {r : Finding} {relation�
 
 -- ---- the schedule writer
 
-abbrev Low : Told → Type 0
-Low t = (t .place ≤ mostRows) × (t .also ≤ mostRows)
-
-low-either : (b : Bool) (t u : Told) → Low t → Low u → Low (cond b t u)
-low-either true t u l m = l
-low-either false t u l m = m
-
-low : (n p : ℕ) → p ≤ mostRows → Low (tell n p 0)
-low n p l = (l, omega arith)
-
--- the place of 3 is a row
-pub checked-low : (commands lengths : List ℕ) → Low (checked commands lengths)
-unfolding checked
-checked-low commands lengths =
-    ⊎-elim (λ (t : badCommands commands ≡ true). rw t (low 1 0 (omega arith)))
-    (λ (f : badCommands commands ≡ false).
-    let few : rows commands ≤ mostRows = ltb-false _ _ (or-eq-false-eq-eq-false-and-eq-false (not (eqb (length commands % 3) 0)) _ .0 f .1) in
-    rw f
-    (low-either (badLengths commands lengths) _ _ (low 2 0 (omega arith))
-    (low-either (ltb (firstBad commands) (rows commands)) _ _ (low 3 (firstBad commands) (omega (arith, first-bad commands .at-most))) (low 0 0 (omega arith)))))
-    (split (badCommands commands))
-
-unwritten-low : (commands lengths : List ℕ) (room : ℕ) → Low (unwritten commands lengths room)
+unwritten-placed : (commands lengths : List ℕ) (room : ℕ) → Placed (unwritten commands lengths room)
 unfolding unwritten mostRows
-unwritten-low commands lengths room =
-    low-either (eqb (checked commands lengths .number) 0) _ _
-    (low-either (ltb room (rows commands)) _ _ (low 4 2 (omega arith)) (low 0 0 (omega arith))) (checked-low commands lengths)
-
--- no legal complete schedule has more steps than there are rows
-complete-few : {commands lengths σ : List ℕ} → Keeps commands lengths → Complete commands lengths σ → length σ ≤ rows commands
-complete-few {commands} {lengths} {σ} K C = omega (arith, length-reverse σ, by (complete-to K C))
+unwritten-placed commands lengths room =
+    or-either Placed (checked commands lengths) (shortRoom (rows commands) room) (checked-placed commands lengths) (λ _. by (ltb room (rows commands)))
   where
-    by : {υ : List ℕ} → T.Complete (program commands lengths) (programs.threads K) υ → length υ ≤ rows commands
-    by (T.stopped {υ} L s) = legal-few K υ L
-    by (T.mismatched L s m) = omega (arith, steps-few K L s)
+    by : (b : Bool) → Placed (cond b (tell 4 2 0) (tell 0 0 0))
+    by true = placed 4 2 (omega arith)
+    by false = placed 0 0 (omega arith)
 
 -- and there are few where a schedule is written
 unwritten-none : (commands lengths : List ℕ) (room : ℕ) → unwritten commands lengths room .number ≡ 0 → checked commands lengths .number ≡ 0
@@ -125,14 +91,14 @@ module _ {commands lengths room room′ : List ℕ} {r : Written} (W : Writes co
       (λ (e : numbered (r .verdict) .number ≡ 0).
       let z = unwritten-none commands lengths (length room) (ap (λ (t : Told). t .number) (sym (W .verdict)) ∙ e) in
       let K = passes-zero commands lengths z in
-      omega (arith, W .wrote e .long, complete-few K (W .complete e), K .few-rows))
+      omega (arith, W .wrote e .long, schedule-few commands lengths, K .few-rows))
       (λ (n : numbered (r .verdict) .number ≢ 0). omega (arith, W .refused n .0))
 
   pub written-counted : Counted (numbered (r .verdict)) (r .length) 0
   unfolding mostRows
   written-counted =
-      let l : Low (numbered (r .verdict)) = rw (W .verdict) (unwritten-low commands lengths (length room)) in
-      record { place = omega (arith, l .0); also = omega (arith, l .1); third = omega (arith, written-few); fourth = omega arith }
+      let l : Placed (numbered (r .verdict)) = rw (W .verdict) (unwritten-placed commands lengths (length room)) in
+      record { place = omega (arith, l .place); also = omega (arith, l .also); third = omega (arith, written-few); fourth = omega arith }
 
 -- ---- the reader
 

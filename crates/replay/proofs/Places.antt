@@ -1,9 +1,10 @@
--- Where a verdict stands: no number of its place is above the limit of rows. And what is told of a legal complete schedule. Assumes nothing.
+-- Where a verdict stands: no number of its place is above the limit of rows. What is told of a legal complete schedule, and how long
+-- a written one is. Assumes nothing.
 use mathlib.Core.Path.{_≡_, refl}
 use mathlib.Core.Logic.{_⊎_, inl, inr}
 use mathlib.Core.Bool.{Bool, true, false, cond, not}
-use mathlib.Core.List.{List, [], reverse}
-use Prim.Native.Nat.{ℕ, _%_, _≤_, _<_}
+use mathlib.Core.List.{List, [], _∷_, reverse}
+use Prim.Native.Nat.{ℕ, zero, suc, _%_, _≤_, _<_}
 use native.Mathlib.Omega.{arith}
 use lib.Dec.{eqb, ltb}
 use lib.ListN.{length, length-reverse}
@@ -19,7 +20,9 @@ use Rattle.tables.proofs.Rules.{first-bad}
 use Rattle.relation.proofs.Truth.{clashing, isnt, right}
 use Rattle.schedules.proofs.Threads.{stand}
 use Rattle.replay.specs.declared.state.Replay.{Replay}
-use Rattle.replay.specs.Step.{allowed}
+use Rattle.replay.specs.State.{start}
+use Rattle.replay.specs.Step.{allowed, stepped}
+use Rattle.replay.specs.Writer.{goesOn, lowestFirst, schedule}
 use Rattle.replay.specs.Ending.{isBlocked, barrierSet, lowestAllowed, lowestBlocked, lowestSet, lastRun, ended, judged}
 use Rattle.replay.specs.Replay.{played}
 use Rattle.replay.specs.Schedules.{stateAfter, Complete, stopped, mismatched}
@@ -110,3 +113,23 @@ complete-told {commands} {lengths} σ (stopped c stop) =
     rw c (ended-told (ltb (lowestAllowed lengths s) (length lengths)) (ltb (lowestBlocked lengths s) (length lengths)) (ltb (lowestSet s) barriers) _ _ _
     (isnt _ (λ e. clashing (lowest-hit (allowed lengths s) (length lengths) e .1) (stop (lowestAllowed lengths s)))))
 complete-told σ (mismatched v _) = rw v (inr (omega arith, omega arith))
+
+-- ---- a written schedule has no more steps than there are rows
+
+module _ (commands lengths : List ℕ) where
+  one-more : (a b : Bool) (t n : ℕ) (σ : List ℕ) → length σ ≤ n → length (cond a (t ∷ cond b σ []) []) ≤ suc n
+  one-more true true t n σ l = omega arith
+  one-more true false t n σ l = omega arith
+  one-more false b t n σ l = omega arith
+
+  steps-few : (n : ℕ) (s : Replay) → length (lowestFirst commands lengths n s) ≤ n
+  unfolding lowestFirst
+  steps-few zero s = omega arith
+  steps-few (suc n) s =
+      let t = lowestAllowed lengths s in
+      let d = stepped commands lengths s t in
+      one-more (ltb t (length lengths)) (goesOn (d .did)) t n (lowestFirst commands lengths n (d .after)) (steps-few n (d .after))
+
+  pub schedule-few : length (schedule commands lengths) ≤ rows commands
+  unfolding schedule
+  schedule-few = steps-few (rows commands) start

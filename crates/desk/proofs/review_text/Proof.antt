@@ -4,7 +4,8 @@ use borrow.Author.Needs.{needs}
 use Rattle.spelling.specs.Over.{over}
 use Rattle.desk.specs.declared.conclusion.Conclusion.{Conclusion}
 use Rattle.desk.specs.Report.{leastRoom, report}
-use Rattle.desk.proofs.Reports.{text-fits, refused-room, reviewed-text}
+use Rattle.desk.proofs.Fits.{longest}
+use Rattle.desk.proofs.Reports.{text-short, refused-room, reviewed-text}
 use Rattle.desk.proofs.review_text.Statement.{statement}
 use Rattle.desk.proofs.review_text.Tie as tie
 
@@ -13,8 +14,8 @@ unfolding leastRoom
 returns c = refused-room _ _ (omega (arith, c .if1 .taken))
 
 print-requires : tie.Need-print-requires
-unfolding leastRoom
-print-requires c κs = rw (c .before .conclude .ensures) (omega (arith, text-fits (c .before .before .before .before .before .args .text .now), c .before .before .if1 .left))
+unfolding longest
+print-requires c κs = rw (c .before .conclude .ensures) (omega (arith, text-short (c .before .before .before .before .before .args .text .now), c .before .before .if1 .left))
 
 returns-2 : tie.Need-returns-2
 unfolding leastRoom

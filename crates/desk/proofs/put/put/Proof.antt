@@ -3,7 +3,7 @@ use Prim.Native.Nat.{_-_, _≤_}
 use native.Mathlib.Omega.{arith}
 use lib.ListN.{length, take}
 use borrow.Author.Needs.{needs}
-use Rattle.desk.specs.Placed.{Puts}
+use Rattle.desk.specs.Putting.{Puts}
 use Rattle.desk.proofs.Placing.{puts-none, puts-long, front-room, front-next, front-all}
 use Rattle.desk.proofs.put.put.Statement.{statement}
 use Rattle.desk.proofs.put.put.Tie as tie

@@ -5,7 +5,7 @@ use native.Mathlib.Omega.{arith}
 use lib.ListN.{length, take, length-map}
 use borrow.Author.Needs.{needs}
 use Rattle.review.specs.Sheet.{mostKept, pair}
-use Rattle.desk.specs.Placed.{Puts}
+use Rattle.desk.specs.Putting.{Puts}
 use Rattle.desk.specs.Report.{pairLines}
 use Rattle.desk.proofs.Placing.{puts-none, puts-on, puts-long}
 use Rattle.desk.proofs.Lines.{pairs-next, pairs-room}

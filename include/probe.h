@@ -1,0 +1,71 @@
+/*
+ * Four doors for outside tests and benchmarks: the review, the schedule writer, the reader and the closing of a table. A program that only wants
+ * texts reviewed needs none of them.
+ *
+ * A slice is a pointer and a length in numbers (bytes for a text). The caller promises that every pointer is non-null, even where its length
+ * is 0, and aligned; that so many numbers stand there; and that a slice that is written overlaps no other. Slices that are only read may overlap.
+ *
+ * For all else the library promises: whatever the numbers and lengths, each function returns, writes only the slices that are not const, and
+ * answers as crates/probe/specs/Promise.antt says (ProbesReview, ProbesSchedule, ProbesRead, ProbesClose), which is proved of the code. It keeps
+ * nothing between calls.
+ *
+ * `answer` gets the numbers that are told besides the one returned. It has at least 36 numbers. If it is shorter, 14 is returned before all
+ * else and nothing is touched. Numbers of `answer` that are not named below are kept.
+ *
+ * Numbers of verdicts, places, and what the tables hold: document 01.
+ */
+#ifndef PROBE_H
+#define PROBE_H
+
+#include <stddef.h>
+#include <stdint.h>
+
+#ifdef __cplusplus
+extern "C" {
+#endif
+
+/*
+ * Reviews the tables with an offered schedule. Returns the verdict, 0 to 11.
+ *   commands     three numbers a row: kind, name, count
+ *   lengths      how many rows each thread has
+ *   schedule     the thread of each step
+ *   relation     at least M x ceil(M / 32) words, M the number of rows: happens-before for 0, 10 and 11, else untouched; later words are kept
+ *   generations  at least M numbers: the generation of each command for 0, 10 and 11, else untouched; later numbers are kept
+ *   answer       0 and 1: the verdict's two places; 2: the total of faults; 3: 0; from 4 to 35: both numbers of each of the sheet's sixteen pairs
+ */
+uint32_t probe_review(const uint32_t *commands, size_t commands_len, const uint32_t *lengths, size_t lengths_len,
+                      const uint32_t *schedule, size_t schedule_len, uint32_t *relation, size_t relation_len,
+                      uint32_t *generations, size_t generations_len, uint32_t *answer, size_t answer_len);
+
+/*
+ * Writes a legal, complete schedule. Returns 0, or a refusal, 1 to 4.
+ *   commands, lengths  as above
+ *   room               at least M numbers: gets the schedule; numbers after it are kept; untouched by a refusal
+ *   answer             0 and 1: the refusal's two places; 2: the schedule's length, 0 if refused; 3: 0
+ */
+uint32_t probe_schedule(const uint32_t *commands, size_t commands_len, const uint32_t *lengths, size_t lengths_len,
+                        uint32_t *room, size_t room_len, uint32_t *answer, size_t answer_len);
+
+/*
+ * Reads a text of the written notation. Returns 0, 12 or 13.
+ *   text      the bytes; they need no closing 0
+ *   commands  three numbers for each command; numbers after them are kept; untouched by 12 and 13
+ *   lengths   one number for each thread; the same
+ *   answer    0 and 1: the refusal's two places; 2: how many commands; 3: how many threads; 4: where the rest of the text begins
+ */
+uint32_t probe_read(const uint8_t *text, size_t text_len, uint32_t *commands, size_t commands_len,
+                    uint32_t *lengths, size_t lengths_len, uint32_t *answer, size_t answer_len);
+
+/*
+ * Closes a table of bits under chains: bit j mod 32 of word j / 32 in row i is set exactly when a chain of set bits leads from i to j. Returns 1, or 0
+ * where the room is short; then nothing is touched.
+ *   relation  at least rows x ceil(rows / 32) words, row after row; padding bits are cleared, later words are kept
+ *   rows      how many rows; it has no limit but the room
+ */
+uint32_t probe_close(uint32_t *relation, size_t relation_len, uint32_t rows);
+
+#ifdef __cplusplus
+}
+#endif
+
+#endif
