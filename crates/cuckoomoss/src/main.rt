@@ -1,5 +1,6 @@
 // Reads one text from standard input and prints its report. An error of reading or writing is told on standard error, and is never taken for an end.
 ghost use Rattle.io.specs.Counts.{Counts};
+use desk::Report;
 use input::Came;
 use input::Input;
 use input::fill;
@@ -24,7 +25,7 @@ fn before_zero(room: &[u8]) -> usize
 
 // Reviews a text and prints the report, from a room of the size that the text review asks for.
 fn print_review(text: &[u8]) {
-    let mut report = [0u8; 192];
+    let mut report = [0u8; Report::BYTES];
     desk::review_text(text, &mut report);
     let n = before_zero(&report);
     if !io::write_all(STDOUT_FILENO, &report[..n]) {

@@ -1,12 +1,13 @@
 // The text review: a text in, a report out. C calls it by its plain name; include/desk.h declares it.
 ghost use Rattle.desk.specs.Promise.{TextReviewed};
 use crate::conclusion::conclude;
-use crate::report::Report;
 use crate::report::print;
 
 mod conclusion; // a text read, scheduled and judged
 mod put; // bytes and numbers into a room
 mod report; // the lines of the report
+
+pub use report::Report;
 
 // Reads a text, writes a schedule, judges it and prints. Its own rooms are full ones on the stack.
 #[no_mangle]

@@ -11,11 +11,11 @@ use crate::put::put_number;
 use review::Sheet;
 use tables::Told;
 
-pub(crate) struct Report;
+pub struct Report;
 
 impl Report {
     // a report room has at least so many bytes
-    pub(crate) const BYTES: usize = 192;
+    pub const BYTES: usize = 192;
 }
 
 // Two numbers, a space between them, and the line's end.
