@@ -1,7 +1,7 @@
 -- What is concluded from a text, by its grammar: demand 3, and which numbers there are. Assumes nothing.
 use mathlib.Core.Path.{_≡_, refl, sym, ap, subst, _∙_}
 use mathlib.Core.Bool.{Bool, true, false, cond}
-use mathlib.Core.Logic.{_⊎_, inl, inr, ⊎-elim, by-cases, _≢_}
+use mathlib.Core.Logic.{_⊎_, inl, inr, ⊎-elim, by-cases}
 use mathlib.Core.List.{List}
 use Prim.Native.Nat.{ℕ, _*_, _≤_, _<_}
 use native.Mathlib.Omega.{arith}
@@ -17,7 +17,7 @@ use Rattle.notation.specs.declared.reading.Reading.{Reading}
 use Rattle.notation.specs.declared.reading.Reading.the-variants.{Unfit, Over, Accepted}
 use Rattle.notation.specs.Grammar.{Program, Denotes, joined, threads, programLengths}
 use Rattle.notation.specs.Reading.{mostBytes, Answer, answered, rowNumbers, threadLengths}
-use Rattle.notation.specs.Promise.{Within}
+use Rattle.notation.specs.Promise.{Within, RefusedAt}
 use Rattle.notation.proofs.Readings.{denoted-found, Stands, reads, answered-reads, denoted-reads, reads-means}
 use Rattle.notation.proofs.Tabled.{program-checked}
 use Rattle.replay.specs.Writer.{schedule}
@@ -98,41 +98,46 @@ module _ (text : List ℕ) where
   -- what a text is
   data Kind : Type 0 where
     reviewable : (x : Program) → Reviewable text x → Kind
-    broken : number ≡ 3 → Kind
-    unread : number ≡ 12 → Kind
+    broken : number ≡ 3 → (x : Program) → Denotes text x → ofText text .told ≡ checked (numbers x) (programLengths x) → Kind
+    unread : number ≡ 12 → RefusedAt text (ofText text .told .place) → Kind
     over : number ≡ 13 → (mostBytes < length text) ⊎ ((x : Program) × Denotes text x × ¬ Within text (mostRows * 3) mostThreads x) → Kind
 
-  refused-told : {t : Told} → readAs text ≡ t → (t .number ≡ 0 → ⊥) → ofText text .told .number ≡ t .number
+  refused-told : {t : Told} → readAs text ≡ t → (t .number ≡ 0 → ⊥) → ofText text .told ≡ t
   unfolding ofText
-  refused-told e z =
-      let q = ap (λ (t : Told). t .number) e in
-      rw (ne-eqb (readAs text .number) 0 (λ y. z (sym q ∙ y))) q
+  refused-told e z = rw (ne-eqb (readAs text .number) 0 (λ y. z (ap (λ (t : Told). t .number) (sym e) ∙ y))) e
 
   kind : Kind
   kind = by taken refl (reads-means text (mostRows * 3) mostThreads)
     where
       by : (r : Reading) → taken ≡ r → Stands text (mostRows * 3) mostThreads r → Kind
-      by (Unfit p) e s = unread (refused-told (read-told e) (λ z. omega arith))
-      by Over e s = over (refused-told (read-told e) (λ z. omega arith)) s
+      by (Unfit p) e (_, _, s) =
+          let q = refused-told (read-told e) (λ z. omega arith) in
+          unread (ap (λ (t : Told). t .number) q) (subst (RefusedAt text) (ap (λ (t : Told). t .place) (sym q)) s)
+      by Over e s = over (ap (λ (t : Told). t .number) (refused-told (read-told e) (λ z. omega arith))) s
       by (Accepted m t) e (x, d, w) =
           ⊎-elim
           (λ (z : checked (numbers x) (programLengths x) .number ≡ 0). reviewable x (record { denotes = d; within = w; keeps = kept (numbers x) (programLengths x) (passes-zero (numbers x) (programLengths x) z) }))
           (λ (h : checked (numbers x) (programLengths x) .number ≡ 3).
-          broken (ap (λ (t : Told). t .number) (denoted-told x d w ∙ refused-checked (numbers x) (programLengths x) (λ z. omega arith) (schedule (numbers x) (programLengths x)) _ _) ∙ h))
+          let q : ofText text .told ≡ checked (numbers x) (programLengths x) = denoted-told x d w ∙ refused-checked (numbers x) (programLengths x) (λ z. omega arith) (schedule (numbers x) (programLengths x)) _ _ in
+          broken (ap (λ (t : Told). t .number) q ∙ h) x d q)
           (program-checked x (w .few-rows) (w .few-threads))
+
+  -- a reviewable text's number is none of a refusal's
+  not-refused : (number ≡ 0) ⊎ ((7 ≤ number) × (number ≤ 11)) → (number ≡ 3) ⊎ (12 ≤ number) → ⊥
+  not-refused (inl e) (inl z) = omega arith
+  not-refused (inl e) (inr z) = omega arith
+  not-refused (inr (a, b)) (inl z) = omega arith
+  not-refused (inr (a, b)) (inr z) = omega arith
 
   -- where a number is one of a reviewable text's, the text is reviewable
   is-reviewable : (number ≡ 0) ⊎ ((7 ≤ number) × (number ≤ 11)) → (x : Program) × Reviewable text x
   is-reviewable h = by kind
     where
-      most : (number < 12) × (number ≢ 3)
-      most = ⊎-elim (λ (e : number ≡ 0). (omega arith, λ z. omega arith)) (λ (l : (7 ≤ number) × (number ≤ 11)). (omega (arith, l .1), λ z. omega (arith, l .0))) h
-
       by : Kind → (x : Program) × Reviewable text x
       by (reviewable x S) = (x, S)
-      by (broken e) = absurd (most .1 e)
-      by (unread e) = absurd (omega (arith, most .0))
-      by (over e _) = absurd (omega (arith, most .0))
+      by (broken e _ _ _) = absurd (not-refused h (inl e))
+      by (unread e _) = absurd (not-refused h (inr (omega arith)))
+      by (over e _) = absurd (not-refused h (inr (omega arith)))
 
   pub text-judged : JudgesText text number
   text-judged =
@@ -165,19 +170,27 @@ module _ (text : List ℕ) where
       (λ (t : ¬ (mostThreads < length (threads x))).
       absurd (w (record { bytes = b; few-rows = omega arith; few-threads = omega arith; room = omega arith; places = omega arith }))))
 
-  pub text-possible : Possible text number
+  pub text-possible : Possible text (ofText text .told)
   text-possible = by kind
     where
-      by : Kind → Possible text number
+      by : Kind → Possible text (ofText text .told)
       by (reviewable x S) =
-          ⊎-elim (λ (e : number ≡ 0). record { some = inl e; too-much = λ z. absurd (omega arith) })
-          (λ (l : (7 ≤ number) × (number ≤ 11)). record { some = inr (inr (l .0, omega (arith, l .1))); too-much = λ z. absurd (omega (arith, l .1)) })
-          (reviewable-number S)
-      by (broken e) = record { some = inr (inl e); too-much = λ z. absurd (omega arith) }
-      by (unread e) = record { some = inr (inr (omega arith, omega arith)); too-much = λ z. absurd (omega arith) }
+          let h = reviewable-number S in
+          record {
+            some = ⊎-elim inl (λ (l : (7 ≤ number) × (number ≤ 11)). inr (inr (l .0, omega (arith, l .1)))) h;
+            broken = λ z. absurd (not-refused h (inl z));
+            unfit = λ z. absurd (not-refused h (inr (omega arith)));
+            too-much = λ z. absurd (not-refused h (inr (omega arith)));
+          }
+      by (broken e x d q) =
+          record { some = inr (inl e); broken = λ _. (x, d, q); unfit = λ z. absurd (omega arith); too-much = λ z. absurd (omega arith) }
+      by (unread e r) =
+          record { some = inr (inr (omega arith, omega arith)); broken = λ z. absurd (omega arith); unfit = λ _. r; too-much = λ z. absurd (omega arith) }
       by (over e s) =
           record {
             some = inr (inr (omega arith, omega arith));
+            broken = λ z. absurd (omega arith);
+            unfit = λ z. absurd (omega arith);
             too-much =
                 λ _.
                 ⊎-elim inl

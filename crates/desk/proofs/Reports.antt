@@ -107,7 +107,7 @@ module _ (text room : List ℕ) where
         answers = λ h. absurd (omega arith);
         prints = λ h. absurd (omega arith);
         fits = text-fits text;
-        possible = λ h. absurd (omega arith);
+        possible = text-possible text;
         demand₃ = λ h. absurd (omega arith);
       }
 
@@ -119,7 +119,7 @@ module _ (text room : List ℕ) where
         answers = λ _. e;
         prints = λ _. p;
         fits = text-fits text;
-        possible = λ _. rw e (text-possible text);
+        possible = text-possible text;
         demand₃ = λ _. rw e (text-judged text);
       }
 

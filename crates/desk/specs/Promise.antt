@@ -12,7 +12,7 @@ use Rattle.spelling.specs.Machine.{flat}
 use Rattle.spelling.specs.Over.{over}
 use Rattle.notation.specs.Grammar.{Program, Denotes, joined, threads, programRows, programLengths}
 use Rattle.notation.specs.Reading.{mostBytes}
-use Rattle.notation.specs.Promise.{Within}
+use Rattle.notation.specs.Promise.{Within, RefusedAt}
 use Rattle.replay.specs.Schedules.{Agree, Disagree}
 use Rattle.review.specs.Sheet.{sheetOf}
 use Rattle.review.specs.Agreement.{SameOrder}
@@ -39,11 +39,13 @@ pub record JudgesText (text : List ℕ) (n : ℕ) : Type 0 where
   -- 7 to 10 only where that agreement fails
   pub disagreement : 7 ≤ n → n ≤ 10 → (x : Program) × Reviewable text x × Disagree (numbers x) (programLengths x)
 
--- Which numbers there are. Its rooms are full ones, so it never answers 4, and 13 only past the limits; its tables are of the reader's making
--- and its schedule of the writer's, so 1, 2, 5 and 6 don't come either.
-pub record Possible (text : List ℕ) (n : ℕ) : Type 0 where
-  pub some : (n ≡ 0) ⊎ (n ≡ 3) ⊎ ((7 ≤ n) × (n ≤ 13))
-  pub too-much : n ≡ 13
+-- Which numbers there are, and what 3, 12 and 13 say of the text. Its rooms are full ones, so it never answers 4, and 13 only past the limits; its tables are of the
+-- reader's making and its schedule of the writer's, so 1, 2, 5 and 6 don't come either.
+pub record Possible (text : List ℕ) (t : Told) : Type 0 where
+  pub some : (t .number ≡ 0) ⊎ (t .number ≡ 3) ⊎ ((7 ≤ t .number) × (t .number ≤ 13))
+  pub broken : t .number ≡ 3 → (x : Program) × Denotes text x × (t ≡ checked (numbers x) (programLengths x))
+  pub unfit : t .number ≡ 12 → RefusedAt text (t .place)
+  pub too-much : t .number ≡ 13
       → (mostBytes < length text)
       ⊎ ((x : Program) × Denotes text x × ((mostRows < length (joined (threads x))) ⊎ (mostThreads < length (threads x))))
 
@@ -56,7 +58,7 @@ pub record TextReviewed (text room room′ : List ℕ) (n : ℕ) : Type 0 where
   pub prints : leastRoom ≤ length room → room′ ≡ over (report (ofText text)) room
   -- any report has room
   pub fits : length (report (ofText text)) ≤ leastRoom
-  pub possible : leastRoom ≤ length room → Possible text n
+  pub possible : Possible text (ofText text .told)
   pub demand₃ : leastRoom ≤ length room → JudgesText text n
 
 -- A report tells its conclusion again, whatever stands after it in the room: verdict, places, total and kept pairs.
