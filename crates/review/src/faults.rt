@@ -9,6 +9,7 @@ ghost use Rattle.review.specs.Order.{numberAt, TwoRows};
 ghost use Rattle.review.specs.Sheet.{sheetOf};
 ghost use Rattle.review.specs.Faults.{succeeds, reuse, conflict, race, faulty, pairOf, alongRow, faults, addAll, Looks, Adds};
 use crate::order::is_first;
+use crate::order::same_name;
 use crate::sheet::Pair;
 use crate::sheet::Sheet;
 use relation::related;
@@ -27,7 +28,7 @@ fn succeeds(commands: &[u32], generations: &[u32], c1: usize, c2: usize) -> bool
     ensures { λ r. ⌜ r ≡ succeeds (now (commands .entry)) (numberAt (now (generations .entry))) c1 c2 ⌝ }
 {
     let both = (Table::ARRIVE <= commands[c1 * 3]) & (Table::ARRIVE <= commands[c2 * 3]);
-    let same_barrier = commands[c1 * 3 + 1] == commands[c2 * 3 + 1];
+    let same_barrier = same_name(commands, c1, c2);
     let next = generations[c1] as u64 + 1 == generations[c2] as u64;
     both & same_barrier & next
 }
@@ -62,7 +63,7 @@ fn conflict(commands: &[u32], x: usize, y: usize) -> bool
     let a = commands[x * 3];
     let b = commands[y * 3];
     let accesses = (a < Table::ARRIVE) & (b < Table::ARRIVE);
-    let same_address = commands[x * 3 + 1] == commands[y * 3 + 1];
+    let same_address = same_name(commands, x, y);
     accesses & same_address & ((a == Table::WRITE) | (b == Table::WRITE))
 }
 

@@ -1,9 +1,10 @@
 // What a clean replay tells: generations into their room, and happens-before into its room.
 ghost use mathlib.Core.Path.{_≡_};
 ghost use Prim.Native.Nat.{_≤_, _<_, suc};
+ghost use lib.Dec.{eqb};
 ghost use lib.ListN.{length};
 ghost use Rattle.tables.specs.Limits.{mostThreads, mostRows};
-ghost use Rattle.tables.specs.Rows.{rows, isFirst};
+ghost use Rattle.tables.specs.Rows.{rows, name, isFirst};
 ghost use Rattle.review.specs.Order.{put, numberAt, meets, edges, Drawn, TwoRows, Ordering, Roomy, Reached};
 use relation::clear;
 use relation::close;
@@ -32,6 +33,14 @@ pub(crate) fn put_generations(room: &mut [u32], generations: [u32; Table::ROWS],
     }
 }
 
+// Have i and j the same barrier, or the same address?
+pub(crate) fn same_name(commands: &[u32], i: usize, j: usize) -> bool
+    requires { ⌜ (i < rows (now commands)) × (j < rows (now commands)) ⌝ }
+    ensures { λ r. ⌜ r ≡ eqb (name (now (commands .entry)) i) (name (now (commands .entry)) j) ⌝ }
+{
+    commands[i * 3 + 1] == commands[j * 3 + 1]
+}
+
 // Does i register where and when j syncs: at the same barrier, in the same generation?
 fn meets(commands: &[u32], generations: &[u32], i: usize, j: usize) -> bool
     requires { ⌜ TwoRows (now commands) (now generations) i j ⌝ }
@@ -39,7 +48,7 @@ fn meets(commands: &[u32], generations: &[u32], i: usize, j: usize) -> bool
 {
     let registers = Table::ARRIVE <= commands[i * 3];
     let syncs = commands[j * 3] == Table::SYNC;
-    let same_barrier = commands[i * 3 + 1] == commands[j * 3 + 1];
+    let same_barrier = same_name(commands, i, j);
     let same_generation = generations[i] == generations[j];
     registers & syncs & same_barrier & same_generation
 }

@@ -7,7 +7,7 @@ use Rattle.review.proofs.faults.conflict.Tie as tie
 
 returns : tie.Need-returns
 unfolding conflict
-returns c = simp and-assoc
+returns c = simp (and-assoc, c .same-name .ensures)
 
 pub conflict-spec : {M : Type 1} → statement M
 conflict-spec =
@@ -19,12 +19,5 @@ conflict-spec =
     (λ c. search needs)
     (λ c. search needs)
     (λ c. search needs)
-    (λ c. search needs)
-    (λ c. search needs)
-    (λ c. search needs)
-    (λ c. search needs)
-    (λ c. search needs)
-    (λ c. search needs)
-    (λ c. search needs)
-    (λ c. search needs)
+    (λ c κs. search needs)
     returns)

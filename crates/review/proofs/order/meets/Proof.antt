@@ -5,7 +5,7 @@ use Rattle.review.proofs.order.meets.Statement.{statement}
 use Rattle.review.proofs.order.meets.Tie as tie
 
 returns : tie.Need-returns
-returns c = simp and-assoc
+returns c = simp (and-assoc, c .before .before .same-name .ensures)
 
 pub meets-spec : {M : Type 1} → statement M
 meets-spec =
@@ -17,14 +17,7 @@ meets-spec =
     (λ c. search needs)
     (λ c. search needs)
     (λ c. search needs)
-    (λ c. search needs)
-    (λ c. search needs)
-    (λ c. search needs)
-    (λ c. search needs)
-    (λ c. search needs)
-    (λ c. search needs)
-    (λ c. search needs)
-    (λ c. search needs)
+    (λ c κs. search needs)
     (λ c. search needs)
     (λ c. search needs)
     (λ c. search needs)
