@@ -6,6 +6,6 @@ use lib.ListN.{length}
 use lib.Seq.{sets}
 
 -- the bytes are put, and the answer is the place after them
-pub record Puts (before after : List ℕ) (at : ℕ) (bytes : List ℕ) (next : ℕ) : Type 0 where
+pub record PutsBytes (before after : List ℕ) (at : ℕ) (bytes : List ℕ) (next : ℕ) : Type 0 where
   pub room : after ≡ sets before at bytes
   pub on : next ≡ at + length bytes

@@ -3,7 +3,7 @@ ghost use mathlib.Core.Path.{_≡_};
 ghost use Prim.Native.Nat.{_+_, _≤_, min};
 ghost use lib.ListN.{length};
 ghost use Rattle.spelling.specs.Over.{over};
-ghost use Rattle.desk.specs.Putting.{Puts};
+ghost use Rattle.desk.specs.Putting.{PutsBytes};
 ghost use Rattle.desk.specs.Report.{twoNumbers, verdictLine, totalLine, pairLines, kept, report};
 use crate::conclusion::Conclusion;
 use crate::put::put;
@@ -21,7 +21,7 @@ impl Report {
 // Two numbers, a space between them, and the line's end.
 fn put_two(room: &mut [u8], at: usize, first: usize, second: usize) -> usize
     requires { ⌜ at + length (twoNumbers first second) ≤ length (now room) ⌝ }
-    ensures { λ r. ⌜ Puts (now (room .entry)) (now (room .exit)) at (twoNumbers first second) r ⌝ }
+    ensures { λ r. ⌜ PutsBytes (now (room .entry)) (now (room .exit)) at (twoNumbers first second) r ⌝ }
 {
     let after_first = put_number(room, at, first);
     let after_space = put(room, after_first, b" ");
@@ -31,7 +31,7 @@ fn put_two(room: &mut [u8], at: usize, first: usize, second: usize) -> usize
 
 fn put_verdict(room: &mut [u8], at: usize, told: Told) -> usize
     requires { ⌜ at + length (verdictLine told) ≤ length (now room) ⌝ }
-    ensures { λ r. ⌜ Puts (now (room .entry)) (now (room .exit)) at (verdictLine told) r ⌝ }
+    ensures { λ r. ⌜ PutsBytes (now (room .entry)) (now (room .exit)) at (verdictLine told) r ⌝ }
 {
     let after_word = put(room, at, b"verdict ");
     let after_number = put_number(room, after_word, told.number as usize);
@@ -41,7 +41,7 @@ fn put_verdict(room: &mut [u8], at: usize, told: Told) -> usize
 
 fn put_total(room: &mut [u8], at: usize, total: usize) -> usize
     requires { ⌜ at + length (totalLine total) ≤ length (now room) ⌝ }
-    ensures { λ r. ⌜ Puts (now (room .entry)) (now (room .exit)) at (totalLine total) r ⌝ }
+    ensures { λ r. ⌜ PutsBytes (now (room .entry)) (now (room .exit)) at (totalLine total) r ⌝ }
 {
     let after_word = put(room, at, b"total ");
     let after_number = put_number(room, after_word, total);
@@ -57,7 +57,7 @@ fn least(a: usize, b: usize) -> usize
 // One line a kept pair.
 fn put_pairs(room: &mut [u8], at: usize, sheet: Sheet) -> usize
     requires { ⌜ at + length (pairLines (kept sheet)) ≤ length (now room) ⌝ }
-    ensures { λ r. ⌜ Puts (now (room .entry)) (now (room .exit)) at (pairLines (kept sheet)) r ⌝ }
+    ensures { λ r. ⌜ PutsBytes (now (room .entry)) (now (room .exit)) at (pairLines (kept sheet)) r ⌝ }
 {
     let lines = least(sheet.total, Sheet::KEPT);
     let mut next = at;

@@ -3,13 +3,13 @@ use Prim.Native.Nat.{_-_, _≤_}
 use native.Mathlib.Omega.{arith}
 use lib.ListN.{length, take}
 use borrow.Author.Needs.{needs}
-use Rattle.desk.specs.Putting.{Puts}
+use Rattle.desk.specs.Putting.{PutsBytes}
 use Rattle.desk.proofs.Placing.{puts-none, puts-long, front-room, front-next, front-all}
 use Rattle.desk.proofs.put.put.Statement.{statement}
 use Rattle.desk.proofs.put.put.Tie as tie
 
 abbrev Inv-loop : tie.InvT-loop
-Inv-loop room₀ at bytes next₀ i₀ room next i = Puts room₀ room at (take i bytes) next × (i ≤ length bytes)
+Inv-loop room₀ at bytes next₀ i₀ room next i = PutsBytes room₀ room at (take i bytes) next × (i ≤ length bytes)
 
 abbrev μ-loop : tie.MeasureT-loop
 μ-loop room₀ at bytes next₀ i₀ room next i = length bytes - i

@@ -5,7 +5,7 @@ use native.Mathlib.Omega.{arith}
 use lib.ListN.{length, take, length-map}
 use borrow.Author.Needs.{needs}
 use Rattle.review.specs.Sheet.{mostKept, pair}
-use Rattle.desk.specs.Putting.{Puts}
+use Rattle.desk.specs.Putting.{PutsBytes}
 use Rattle.desk.specs.Report.{pairLines}
 use Rattle.desk.proofs.Placing.{puts-none, puts-on, puts-long}
 use Rattle.desk.proofs.Lines.{pairs-next, pairs-room}
@@ -14,7 +14,7 @@ use Rattle.desk.proofs.report.put_pairs.Tie as tie
 
 abbrev Inv-loop : tie.InvT-loop
 Inv-loop room₀ at sheet lines next₀ i₀ room next i =
-    Puts room₀ room at (pairLines (take i (sheet .pairs))) next × (i ≤ lines) × (length (sheet .pairs) ≡ 16)
+    PutsBytes room₀ room at (pairLines (take i (sheet .pairs))) next × (i ≤ lines) × (length (sheet .pairs) ≡ 16)
 
 abbrev μ-loop : tie.MeasureT-loop
 μ-loop room₀ at sheet lines next₀ i₀ room next i = lines - i
