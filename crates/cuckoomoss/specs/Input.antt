@@ -6,6 +6,6 @@ use Rattle.cuckoomoss.specs.declared.input.Came.{Came}
 use Rattle.cuckoomoss.specs.declared.input.Came.the-variants.{Bytes, Failed}
 
 -- bytes that came stand at the start of the room
-abbrev pub Within : Came → List ℕ → Type 0
-Within (Bytes n) room = Counts n room
-Within Failed room = Unit {0}
+abbrev pub CameWithin : Came → List ℕ → Type 0
+CameWithin (Bytes n) room = Counts n room
+CameWithin Failed room = Unit {0}

@@ -1,5 +1,5 @@
 // A text from a descriptor.
-ghost use Rattle.cuckoomoss.specs.Input.{Within};
+ghost use Rattle.cuckoomoss.specs.Input.{CameWithin};
 use notation::Text;
 
 pub(crate) struct Input;
@@ -17,7 +17,7 @@ pub(crate) enum Came {
 
 // One read: no byte comes at the end of the input. A read that a signal interrupted is tried again, up to a number of times that no run uses up.
 fn read_once(fd: i32, room: &mut [u8]) -> Came
-    ensures { λ r. ⌜ Within r (now (room .exit)) ⌝ }
+    ensures { λ r. ⌜ CameWithin r (now (room .exit)) ⌝ }
 {
     let mut turns = u64::MAX;
     while turns > 0 {
@@ -35,7 +35,7 @@ fn read_once(fd: i32, room: &mut [u8]) -> Came
 
 // Reads until the room is full, the input ends or a read fails.
 pub(crate) fn fill(fd: i32, room: &mut [u8]) -> Came
-    ensures { λ r. ⌜ Within r (now (room .exit)) ⌝ }
+    ensures { λ r. ⌜ CameWithin r (now (room .exit)) ⌝ }
 {
     let mut done = 0;
     while done < room.len() {
