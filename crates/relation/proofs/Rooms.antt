@@ -306,3 +306,8 @@ module _ (b r s : List ℕ) (m i j : ℕ) (wr : Words r) (ws : Words s) where
       stored-one (I .from) (I .to) (A .within t) (B .within t))
       (λ (f : inside (length b) m i j ≡ false). A .outside f ∙ sym (B .outside f))
       (split (inside (length b) m i j))
+
+-- document 01's example of a room: 33 numbers need 66 words
+pub words-of-33 : words 33 ≡ 66
+unfolding width
+words-of-33 = refl

@@ -1,9 +1,14 @@
 -- What a registration meets and does, from what each part of it gives. Assumes nothing.
 use mathlib.Core.Path.{_≡_, sym, ap, _∙_}
+use mathlib.Core.Logic.{⊎-elim}
 use mathlib.Core.Bool.{Bool, true, false}
+use mathlib.Core.List.{map}
 use Prim.Native.Nat.{ℕ, _+_}
+use lib.Dec.{eqb}
+use lib.ListN.{getD, List·getD-map}
 use borrow.Author.Tests.{eq-eqb, ne-eqb}
-use Rattle.replay.specs.declared.barrier.Phase.the-variants.{Expecting}
+use Rattle.relation.proofs.Truth.{split}
+use Rattle.replay.specs.declared.barrier.Phase.the-variants.{Unset, Expecting}
 use Rattle.replay.specs.declared.barrier.Barrier.{Barrier}
 use Rattle.replay.specs.declared.barrier.Met.{Met}
 use Rattle.replay.specs.declared.barrier.Met.the-variants.{Clash, Stays, Completes}
@@ -12,7 +17,7 @@ use Rattle.replay.specs.declared.step.How.the-variants.{Mismatch}
 use Rattle.replay.specs.declared.step.Did.the-variants.{Took}
 use Rattle.replay.specs.declared.step.Stepped.{Stepped}
 use Rattle.replay.specs.Barrier.{joined, met}
-use Rattle.replay.specs.State.{barrierAt, stored, advanced, blocked, freed}
+use Rattle.replay.specs.State.{waiting, barrierAt, stored, advanced, blocked, letGo, freed}
 use Rattle.replay.specs.Step.{ran, registering}
 
 -- what a barrier that expects a count meets
@@ -49,3 +54,14 @@ module _ (s : Replay) (t c : ℕ) (sync : Bool) (b count : ℕ) (m : Met) (meets
         → r ≡ registering s t c sync b count
     unfolding registering
     completes s₃ r e₃ e₄ e = rw (sym meets ∙ e) (e₄ ∙ ap (λ (x : Replay). ran x c generation) (e₃ ∙ ap (λ (x : Replay). freed x b) on))
+
+-- a thread that waits for nothing waits for nothing when others are let go
+let-go-none : (w : ℕ) → letGo w 0 ≡ 0
+let-go-none w = ⊎-elim (λ (e : eqb 0 w ≡ true). rw e) (λ (e : eqb 0 w ≡ false). rw e) (split (eqb 0 w))
+
+-- With count 1 a sync never stays blocked.
+pub count-one : (s : Replay) (t c b : ℕ) → barrierAt s b .phase ≡ Unset → waiting s t ≡ 0 → waiting (registering s t c true b 1 .after) t ≡ 0
+unfolding registering
+count-one s t c b e w =
+    rw e (ap (getD (map (letGo (b + 1)) (s .waits)) t) (sym (let-go-none (b + 1)))
+    ∙ List·getD-map (letGo (b + 1)) (s .waits) t 0 ∙ ap (letGo (b + 1)) w ∙ let-go-none (b + 1))
