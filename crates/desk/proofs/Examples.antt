@@ -27,10 +27,10 @@ use Rattle.review.specs.Judge.{refused, verdictOf}
 use Rattle.desk.specs.Figures.{figuresTo, figures}
 use Rattle.desk.specs.Conclusion.{ofTables, ofText}
 use Rattle.desk.specs.Report.{twoNumbers, verdictLine, totalLine, pairLines, report}
-use Rattle.desk.specs.Examples.{reports, asGiven}
+use Rattle.desk.specs.Examples.{reports, reported}
 
-pub every : asGiven reports ≡ true
-unfolding reports asGiven
+pub every : reported reports ≡ true
+unfolding reports reported
     mostRows mostThreads addresses barriers mostCount total firstRow threadOf lowest rowKeeps firstBad checked rounds width edge reach
     classOf run alike mostNumber decimal numeralOf cutsN flat found wordOf markOf pieceOf moved mostBytes judgedOf tooMany reading
     start allowed registering running stepped playing played ended judged lowestFirst schedule mostKept firsts sheetOf

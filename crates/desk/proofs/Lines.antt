@@ -10,7 +10,7 @@ use Rattle.tables.specs.declared.verdict.Told.{Told}
 use Rattle.review.specs.declared.sheet.Pair.{Pair}
 use Rattle.desk.specs.declared.conclusion.Conclusion.{Conclusion}
 use Rattle.desk.specs.Figures.{figures}
-use Rattle.desk.specs.Report.{space, newline, verdictWord, placeWord, totalWord, twoNumbers, verdictLine, totalLine, pairLines, kept, report}
+use Rattle.desk.specs.Report.{space, newline, verdictWord, placeWord, totalWord, twoNumbers, verdictLine, totalLine, pairLines, keptPairs, report}
 
 -- ---- lengths
 
@@ -33,12 +33,12 @@ unfolding totalLine
 total-long n = omega (arith, length-append (totalWord ++ figures n) (newline ∷ []), length-append totalWord (figures n))
 
 pub report-long : (c : Conclusion)
-    → length (report c) ≡ length (verdictLine (c .told)) + length (totalLine (c .sheet .total)) + length (pairLines (kept (c .sheet)))
+    → length (report c) ≡ length (verdictLine (c .told)) + length (totalLine (c .sheet .total)) + length (pairLines (keptPairs (c .sheet)))
 unfolding report
 report-long c =
     omega (
       arith,
-      length-append (verdictLine (c .told) ++ totalLine (c .sheet .total)) (pairLines (kept (c .sheet))),
+      length-append (verdictLine (c .told) ++ totalLine (c .sheet .total)) (pairLines (keptPairs (c .sheet))),
       length-append (verdictLine (c .told)) (totalLine (c .sheet .total)),
     )
 

@@ -16,7 +16,7 @@ use Rattle.tables.specs.Verdicts.{numbered}
 use Rattle.tables.proofs.Rules.{passes-zero, checked-small}
 use Rattle.relation.specs.Table.{width, words}
 use Rattle.replay.specs.declared.writer.Written.{Written}
-use Rattle.replay.specs.Doors.{Writes}
+use Rattle.replay.specs.Doors.{WritesSchedule}
 use Rattle.tables.specs.declared.verdict.Told.{Told}
 use Rattle.replay.specs.Writer.{schedule, unwritten, Filled}
 use Rattle.review.specs.declared.judge.Finding.{Finding}
@@ -52,7 +52,7 @@ roomy commands lengths room e l =
     rw (eq-eqb (checked commands lengths .number) 0 e, le-ltb room (rows commands) (omega (arith, passes-zero commands lengths e .few-rows)))
 
 -- what the writer left in a full room
-module _ {commands lengths before after : List ℕ} {w : Written} (W : Writes commands lengths before after w) (full : length before ≡ mostRows) where
+module _ {commands lengths before after : List ℕ} {w : Written} (W : WritesSchedule commands lengths before after w) (full : length before ≡ mostRows) where
   filled : checked commands lengths .number ≡ 0 → Filled commands lengths before after (w .length)
   filled e = W .wrote (ap (λ (t : Told). t .number) (W .verdict) ∙ roomy commands lengths (length before) e (omega arith))
 

@@ -38,6 +38,6 @@ reports =
     ∷ []
 
 -- the report of each text is the one given
-unfoldable pub asGiven : List Reported → Bool
-asGiven [] = true
-asGiven (e ∷ es) = alike (report (ofText (e .text))) (e .bytes) && asGiven es
+unfoldable pub reported : List Reported → Bool
+reported [] = true
+reported (e ∷ es) = alike (report (ofText (e .text))) (e .bytes) && reported es

@@ -44,8 +44,8 @@ pairLines [] = []
 pairLines (p ∷ ps) = twoNumbers (p .first) (p .second) ++ pairLines ps
 
 -- as many pairs as the smaller of the total and sixteen
-abbrev pub kept : Sheet → List Pair
-kept s = take (min (s .total) mostKept) (s .pairs)
+abbrev pub keptPairs : Sheet → List Pair
+keptPairs s = take (min (s .total) mostKept) (s .pairs)
 
 unfoldable pub report : Conclusion → List ℕ
-report c = verdictLine (c .told) ++ totalLine (c .sheet .total) ++ pairLines (kept (c .sheet))
+report c = verdictLine (c .told) ++ totalLine (c .sheet .total) ++ pairLines (keptPairs (c .sheet))

@@ -4,7 +4,7 @@ ghost use Prim.Native.Nat.{_+_, _≤_, min};
 ghost use lib.ListN.{length};
 ghost use Rattle.spelling.specs.Over.{over};
 ghost use Rattle.desk.specs.Putting.{PutsBytes};
-ghost use Rattle.desk.specs.Report.{twoNumbers, verdictLine, totalLine, pairLines, kept, report};
+ghost use Rattle.desk.specs.Report.{twoNumbers, verdictLine, totalLine, pairLines, keptPairs, report};
 use crate::conclusion::Conclusion;
 use crate::put::put;
 use crate::put::put_number;
@@ -56,8 +56,8 @@ fn least(a: usize, b: usize) -> usize
 
 // One line a kept pair.
 fn put_pairs(room: &mut [u8], at: usize, sheet: Sheet) -> usize
-    requires { ⌜ at + length (pairLines (kept sheet)) ≤ length (now room) ⌝ }
-    ensures { λ r. ⌜ PutsBytes (now (room .entry)) (now (room .exit)) at (pairLines (kept sheet)) r ⌝ }
+    requires { ⌜ at + length (pairLines (keptPairs sheet)) ≤ length (now room) ⌝ }
+    ensures { λ r. ⌜ PutsBytes (now (room .entry)) (now (room .exit)) at (pairLines (keptPairs sheet)) r ⌝ }
 {
     let lines = least(sheet.total, Sheet::KEPT);
     let mut next = at;

@@ -21,7 +21,7 @@ use Rattle.notation.specs.Promise.{Read}
 use Rattle.notation.specs.declared.reading.Reading.{Reading}
 use Rattle.notation.specs.declared.reading.Reading.the-variants.{Unfit, Over, Accepted}
 use Rattle.replay.specs.Writer.{unwritten, shortRoom}
-use Rattle.replay.specs.Doors.{Writes}
+use Rattle.replay.specs.Doors.{WritesSchedule}
 use Rattle.replay.specs.declared.writer.Written.{Written}
 use Rattle.replay.proofs.Refusals.{or-first, or-either}
 use Rattle.replay.proofs.Places.{Placed, placed, checked-placed, schedule-few}
@@ -84,7 +84,7 @@ unwritten-none commands lengths room e =
     by-cases (ℕ-discrete (checked commands lengths .number) 0) (λ (z : checked commands lengths .number ≡ 0). z)
     (λ (n : checked commands lengths .number ≢ 0). ap (λ (t : Told). t .number) (or-first (checked commands lengths) (shortRoom (rows commands) room) n) ∙ e)
 
-module _ {commands lengths room room′ : List ℕ} {r : Written} (W : Writes commands lengths room room′ r) where
+module _ {commands lengths room room′ : List ℕ} {r : Written} (W : WritesSchedule commands lengths room room′ r) where
   written-few : r .length ≤ mostRows
   written-few =
       by-cases (ℕ-discrete (numbered (r .verdict) .number) 0)

@@ -10,7 +10,7 @@ use Rattle.spelling.specs.Over.{over}
 use Rattle.notation.specs.Reading.{answered, restAt, restOf}
 use Rattle.notation.specs.Promise.{Read}
 use Rattle.notation.specs.declared.reading.Reading.{Reading}
-use Rattle.replay.specs.Doors.{Writes}
+use Rattle.replay.specs.Doors.{WritesSchedule}
 use Rattle.replay.specs.declared.writer.Written.{Written}
 use Rattle.review.specs.Agreement.{Reviewed}
 use Rattle.review.specs.declared.judge.Finding.{Finding}
@@ -39,7 +39,7 @@ module _ (commands lengths room answer : List ℕ) where
   schedule-short h = record { refuses = λ _. (refl, refl, refl); wrote = λ l. absurd (omega arith) }
 
   pub schedule-told : {r : Written} {room′ answer′ : List ℕ} {t : Told} → answerRoom ≤ length answer
-      → Writes commands lengths room room′ r → t ≡ numbered (r .verdict) → answer′ ≡ over (toldNumbers t (r .length) 0) answer
+      → WritesSchedule commands lengths room room′ r → t ≡ numbered (r .verdict) → answer′ ≡ over (toldNumbers t (r .length) 0) answer
       → ProbesSchedule commands lengths room answer room′ answer′ (t .number)
   schedule-told {r} h W e p =
       record { refuses = λ l. absurd (omega arith); wrote = λ _. (r, W, ap (λ (t : Told). t .number) e, p ∙ ap (λ (t : Told). over (toldNumbers t (r .length) 0) answer) e) }

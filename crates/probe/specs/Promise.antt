@@ -13,7 +13,7 @@ use Rattle.spelling.specs.Over.{over}
 use Rattle.notation.specs.Reading.{answered}
 use Rattle.notation.specs.Promise.{Read}
 use Rattle.notation.specs.declared.reading.Reading.{Reading}
-use Rattle.replay.specs.Doors.{Writes}
+use Rattle.replay.specs.Doors.{WritesSchedule}
 use Rattle.replay.specs.declared.writer.Written.{Written}
 use Rattle.review.specs.Agreement.{Reviewed, number}
 use Rattle.review.specs.declared.judge.Finding.{Finding}
@@ -29,7 +29,7 @@ pub record ProbesReview (commands lengths schedule relation room answer relation
 -- The contract of `probe_schedule`.
 pub record ProbesSchedule (commands lengths room answer room′ answer′ : List ℕ) (n : ℕ) : Type 0 where
   pub refuses : length answer < answerRoom → (n ≡ 14) × (room′ ≡ room) × (answer′ ≡ answer)
-  pub wrote : answerRoom ≤ length answer → (r : Written) × Writes commands lengths room room′ r × (n ≡ numbered (r .verdict) .number) × (answer′ ≡ over (writtenNumbers r) answer)
+  pub wrote : answerRoom ≤ length answer → (r : Written) × WritesSchedule commands lengths room room′ r × (n ≡ numbered (r .verdict) .number) × (answer′ ≡ over (writtenNumbers r) answer)
 
 -- The contract of `probe_read`.
 pub record ProbesRead (text commands lengths answer commands′ lengths′ answer′ : List ℕ) (n : ℕ) : Type 0 where

@@ -10,7 +10,7 @@ use Rattle.tables.specs.Rows.{firstRow}
 use Rattle.tables.specs.Verdicts.{tell}
 use Rattle.tables.proofs.Rows.{first-within}
 use Rattle.replay.specs.declared.state.Replay.{Replay}
-use Rattle.replay.specs.State.{run}
+use Rattle.replay.specs.State.{ranSoFar}
 use Rattle.replay.specs.Ending.{lowestAllowed, lowestBlocked, lowestSet, ended}
 
 -- each answer, from the lowest thread that may step, the lowest that is blocked and the lowest barrier that is set
@@ -21,11 +21,11 @@ module _ (lengths : List ℕ) (s : Replay) (steps : ℕ) {a : ℕ} (e : a ≡ lo
 
   module _ (stops : length lengths ≤ a) {t : ℕ} (f : t ≡ lowestBlocked lengths s) where
     pub ends-blocked : t < length lengths → length lengths ≤ mostThreads → {r : ℕ} → r ≡ firstRow lengths (min t mostThreads)
-        → tell 8 (r + run s t - 1) 0 ≡ ended lengths s steps
+        → tell 8 (r + ranSoFar s t - 1) 0 ≡ ended lengths s steps
     unfolding ended
     ends-blocked l few first =
         rw (← e, le-ltb a (length lengths) stops, ← f, lt-ltb t (length lengths) l)
-        (ap (λ (x : ℕ). tell 8 (x + run s t - 1) 0) (first ∙ first-within lengths t (omega arith)))
+        (ap (λ (x : ℕ). tell 8 (x + ranSoFar s t - 1) 0) (first ∙ first-within lengths t (omega arith)))
 
     module _ (free : length lengths ≤ t) {b : ℕ} (g : b ≡ lowestSet s) where
       pub ends-set : b < barriers → tell 9 b 0 ≡ ended lengths s steps

@@ -16,7 +16,7 @@ use Rattle.replay.specs.declared.state.Replay.{Replay}
 use Rattle.replay.specs.declared.step.How.the-variants.{Mismatch}
 use Rattle.replay.specs.declared.step.Did.the-variants.{Took}
 use Rattle.replay.specs.declared.step.Stepped.{Stepped}
-use Rattle.replay.specs.Barrier.{joined, met}
+use Rattle.replay.specs.Barrier.{oneMore, met}
 use Rattle.replay.specs.State.{waiting, barrierAt, stored, advanced, blocked, letGo, freed}
 use Rattle.replay.specs.Step.{ran, registering}
 
@@ -25,7 +25,7 @@ module _ (b : Barrier) (count : ℕ) {n got : ℕ} (e : b .phase ≡ Expecting n
   pub meets-other : ¬ (n ≡ count) → Clash ≡ met b count
   meets-other m = rw (e, ne-eqb n count m)
 
-  pub meets-same : n ≡ count → joined count got (b .done) ≡ met b count
+  pub meets-same : n ≡ count → oneMore count got (b .done) ≡ met b count
   meets-same m = rw (e, eq-eqb n count m)
 
 -- Thread t's command c registers at barrier b of state s. Each part of it hands on the state that it made.

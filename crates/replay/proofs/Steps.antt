@@ -16,20 +16,20 @@ use Rattle.relation.proofs.Truth.{both}
 use Rattle.replay.specs.declared.state.Replay.{Replay}
 use Rattle.replay.specs.declared.step.Did.the-variants.{NotAllowed}
 use Rattle.replay.specs.declared.step.Stepped.{Stepped}
-use Rattle.replay.specs.State.{run, waiting, advanced}
+use Rattle.replay.specs.State.{ranSoFar, waiting, advanced}
 use Rattle.replay.specs.Step.{allowed, command, syncs, ran, registering, running, stepped, Registers, Runs, Counts}
 
 -- thread t is there, has a command left and is not blocked
 pub record May (lengths : List ℕ) (s : Replay) (t : ℕ) : Type 0 where
   pub there : t < length lengths
-  pub left : run s t < getD lengths t 0
+  pub left : ranSoFar s t < getD lengths t 0
   pub free : waiting s t ≡ 0
 
 pub may : (lengths : List ℕ) (s : Replay) (t : ℕ) → allowed lengths s t ≡ true → May lengths s t
 unfolding allowed
 may lengths s t e =
     let (f, u) = both (ltb t (length lengths)) _ e in
-    let (g, h) = both (ltb (run s t) (getD lengths t 0)) _ u in
+    let (g, h) = both (ltb (ranSoFar s t) (getD lengths t 0)) _ u in
     record { there = ltb-true _ _ f; left = ltb-true _ _ g; free = eqb-true _ _ h }
 
 -- ---- thread t runs its command c
@@ -61,18 +61,18 @@ module _ (commands lengths : List ℕ) (s : Replay) (t : ℕ) where
   next-row k m = omega (arith, end-most lengths t)
 
   module _ (k : Keeps commands lengths) (e : allowed lengths s t ≡ true) {f : ℕ} (first : f ≡ firstRow lengths (min t mostThreads)) where
-    next : f + run s t ≡ command lengths s t
+    next : f + ranSoFar s t ≡ command lengths s t
     next =
         let m = may lengths s t e in
-        ap (λ (x : ℕ). x + run s t) (first ∙ first-within lengths t (omega arith))
+        ap (λ (x : ℕ). x + ranSoFar s t) (first ∙ first-within lengths t (omega arith))
 
-    pub may-run : Counts s → Runs commands s t (f + run s t)
+    pub may-run : Counts s → Runs commands s t (f + ranSoFar s t)
     unfolding mostRows
     may-run counts =
         let m = may lengths s t e in
         let l = next-row k m in
         rw next (record { thread = omega arith; next = omega (arith, end-most lengths t); row = l; keeps = k .each-row _ l; counts = counts })
 
-    pub steps-on : running commands s t (f + run s t) ≡ stepped commands lengths s t
+    pub steps-on : running commands s t (f + ranSoFar s t) ≡ stepped commands lengths s t
     unfolding stepped
     steps-on = rw (next, e)

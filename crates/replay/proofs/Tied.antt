@@ -26,7 +26,7 @@ use Rattle.replay.specs.declared.step.How.the-variants as how
 use Rattle.replay.specs.declared.step.Did.the-variants.{NotAllowed, Took}
 use Rattle.replay.specs.declared.step.Stepped.{Stepped}
 use Rattle.replay.specs.Barrier.{soFar, refuses, unset, expecting}
-use Rattle.replay.specs.State.{run, waiting, barrierAt, advanced, stored, freed, letGo, released}
+use Rattle.replay.specs.State.{ranSoFar, waiting, barrierAt, advanced, stored, freed, letGo, released}
 use Rattle.replay.specs.Step.{registers, syncs, allowed, command, registering, running, stepped}
 use Rattle.replay.specs.Step as step
 use Rattle.replay.specs.Program.{program}
@@ -56,7 +56,7 @@ module _ (s : Replay) (t c : ℕ) (sync : Bool) (b n : ℕ) where
 
   more-is : refuses (old .phase) n ≡ false → eqb (soFar (old .phase) + 1) n ≡ false
       → registering s t c sync b n
-      ≡ step.ran (step.waits sync (advanced (stored s b (expecting n (soFar (old .phase) + 1) (old .done))) t) t b) c (old .done + 1)
+      ≡ step.ran (step.blockedIf sync (advanced (stored s b (expecting n (soFar (old .phase) + 1) (old .done))) t) t b) c (old .done + 1)
   unfolding registering
   more-is e f = rw (e, f)
 
@@ -121,7 +121,7 @@ module _ {commands lengths : List ℕ} (K : Keeps commands lengths) where
       tied : (ws : List ℕ) (bs : List Barrier) → length ws ≡ mostThreads → length bs ≡ barriers → WaitIs P H (t ∷ υ) t (getD ws t 0)
           → ((u : ℕ) → u < length lengths → t ≢ u → WaitIs P H (t ∷ υ) u (getD ws u 0))
           → ((b : ℕ) → b < barriers → BarrierIs P (next P σ c) b (getD bs b (unset 0)))
-          → Stands K (t ∷ υ) (record { next = set (s .next) t (run s t + 1); waits = ws; barriers = bs })
+          → Stands K (t ∷ υ) (record { next = set (s .next) t (ranSoFar s t + 1); waits = ws; barriers = bs })
       unfolding state Rattle.schedules.specs.Threads.commands
       tied ws bs ls lb own others each =
           record {
@@ -137,12 +137,12 @@ module _ {commands lengths : List ℕ} (K : Keeps commands lengths) where
                 };
           }
         where
-          command′ : (u : ℕ) → u < length lengths → firstRow lengths u + getD (set (s .next) t (run s t + 1)) u 0 ≡ at P H (t ∷ υ) u
+          command′ : (u : ℕ) → u < length lengths → firstRow lengths u + getD (set (s .next) t (ranSoFar s t + 1)) u 0 ≡ at P H (t ∷ υ) u
           command′ u l =
               by-cases (ℕ-discrete t u)
               (λ (e : t ≡ u).
-              rw (sym e) (omega (arith, getD-set-same (s .next) t (run s t + 1) 0 (omega (arith, few)), at-same H υ t, command-is K S t (st .exists))))
-              (λ (n : t ≢ u). omega (arith, getD-set-other (s .next) t u (run s t + 1) 0 (λ e. n (sym e)), at-other H υ t u n, command-is K S u l))
+              rw (sym e) (omega (arith, getD-set-same (s .next) t (ranSoFar s t + 1) 0 (omega (arith, few)), at-same H υ t, command-is K S t (st .exists))))
+              (λ (n : t ≢ u). omega (arith, getD-set-other (s .next) t u (ranSoFar s t + 1) 0 (λ e. n (sym e)), at-other H υ t u n, command-is K S u l))
 
       -- where no generation completes, the others wait as before
       as-before : ((b : ℕ) → next P σ c .done b ≡ σ .done b) → (u : ℕ) → u < length lengths → t ≢ u → WaitIs P H (t ∷ υ) u (waiting s u)
@@ -223,7 +223,7 @@ module _ {commands lengths : List ℕ} (K : Keeps commands lengths) where
               bars : (a : ℕ) → a < barriers → BarrierIs P (next P σ c) a (getD (set (s .barriers) b v′) a (unset 0))
               bars = all-barriers v′ (barrier-more (lawful K) G A m reg B f)
 
-              go : (y : Bool) → syncs commands c ≡ y → Stands K (t ∷ υ) (step.waits y (advanced (stored s b v′) t) t b)
+              go : (y : Bool) → syncs commands c ≡ y → Stands K (t ∷ υ) (step.blockedIf y (advanced (stored s b v′) t) t b)
               go false y = tied (s .waits) _ (S .tie .waits-long) (barriers-long v′) (own-gone (λ z. clashing z y)) (as-before kept) bars
               go true y =
                   tied (set (s .waits) t (b + 1)) _ (length-set (s .waits) t (b + 1) ∙ S .tie .waits-long) (barriers-long v′)

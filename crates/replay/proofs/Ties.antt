@@ -18,7 +18,7 @@ use Rattle.schedules.specs.Threads.{Threads, at, after, Blocked, Steps, Legal}
 use Rattle.schedules.proofs.Tally.{tally-most}
 use Rattle.schedules.proofs.Threads.{stand, may, good-after}
 use Rattle.replay.specs.declared.state.Replay.{Replay}
-use Rattle.replay.specs.State.{start, run, waiting, barrierAt}
+use Rattle.replay.specs.State.{start, ranSoFar, waiting, barrierAt}
 use Rattle.replay.specs.Step.{allowed, command, Counts}
 use Rattle.replay.specs.Ending.{isBlocked, barrierSet, Ends}
 use Rattle.replay.specs.Program.{program}
@@ -81,9 +81,9 @@ module _ {commands lengths : List ℕ} (K : Keeps commands lengths) where
     unfolding allowed
     allowed-steps t e =
         let (a, f) = both (ltb t (length lengths)) _ e in
-        let (b, c) = both (ltb (run s t) (getD lengths t 0)) _ f in
+        let (b, c) = both (ltb (ranSoFar s t) (getD lengths t 0)) _ f in
         let l : t < length lengths = ltb-true _ _ a in
-        let more : run s t < getD lengths t 0 = ltb-true _ _ b in
+        let more : ranSoFar s t < getD lengths t 0 = ltb-true _ _ b in
         record { exists = l; left = omega (arith, command-is t l); free = S .tie .wait t l .free (eqb-true _ _ c) }
 
     -- what may step does not wait
@@ -95,7 +95,7 @@ module _ {commands lengths : List ℕ} (K : Keeps commands lengths) where
     pub steps-allowed : (t : ℕ) → Steps P H υ t → allowed lengths s t ≡ true
     unfolding allowed
     steps-allowed t st =
-        let more : run s t < getD lengths t 0 = omega (arith, command-is t (st .exists)) in
+        let more : ranSoFar s t < getD lengths t 0 = omega (arith, command-is t (st .exists)) in
         pair _ _ (lt-ltb _ _ (st .exists)) (pair _ _ (lt-ltb _ _ more) (eq-eqb _ _ (waits-not st)))
 
     pub command-row : (t : ℕ) → Steps P H υ t → at P H υ t < rows commands

@@ -11,13 +11,13 @@ use Rattle.tables.proofs.Verdicts.{numbered-one}
 use Rattle.replay.specs.declared.offered.Judged.{Judged}
 use Rattle.replay.specs.declared.writer.Written.{Written}
 use Rattle.replay.specs.Writer.{schedule}
-use Rattle.replay.specs.Doors.{Replays, Writes}
+use Rattle.replay.specs.Doors.{Replays, WritesSchedule}
 
 pub judge-one : (commands lengths σ : List ℕ) (a b : Judged) → Replays commands lengths σ a → Replays commands lengths σ b → a ≡ b
 judge-one commands lengths σ a b A B =
     ap₂ (λ (v : Verdict) (g : List ℕ). record { verdict = v; generations = g }) (numbered-one _ _ (A .verdict ∙ sym (B .verdict))) (A .generations ∙ sym (B .generations))
 
-module _ (commands lengths room : List ℕ) (a b : Written) {ra rb : List ℕ} (A : Writes commands lengths room ra a) (B : Writes commands lengths room rb b) where
+module _ (commands lengths room : List ℕ) (a b : Written) {ra rb : List ℕ} (A : WritesSchedule commands lengths room ra a) (B : WritesSchedule commands lengths room rb b) where
   one-verdict : a .verdict ≡ b .verdict
   one-verdict = numbered-one _ _ (A .verdict ∙ sym (B .verdict))
 

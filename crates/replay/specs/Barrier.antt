@@ -29,12 +29,12 @@ abbrev pub expecting : ℕ → ℕ → ℕ → Barrier
 expecting count got done = record { phase = Expecting count got; done = done }
 
 -- One more registers where `got` have. When registrations reach the count, the barrier is unset and one more generation of it has completed.
-abbrev pub joined : ℕ → ℕ → ℕ → Met
-joined count got done = cond (eqb (got + 1) count) (Completes (unset (done + 1))) (Stays (expecting count (got + 1) done))
+abbrev pub oneMore : ℕ → ℕ → ℕ → Met
+oneMore count got done = cond (eqb (got + 1) count) (Completes (unset (done + 1))) (Stays (expecting count (got + 1) done))
 
 -- A command of this count registers.
 abbrev pub met : Barrier → ℕ → Met
-met b count = cond (refuses (b .phase) count) Clash (joined count (soFar (b .phase)) (b .done))
+met b count = cond (refuses (b .phase) count) Clash (oneMore count (soFar (b .phase)) (b .done))
 
 -- The largest number of 32 bits; what stays below it can be counted on.
 abbrev pub top : ℕ

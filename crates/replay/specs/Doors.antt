@@ -22,7 +22,7 @@ pub record Replays (commands lengths schedule : List ℕ) (r : Judged) : Type 0 
   pub generations : r .generations ≡ cond (eqb (checked commands lengths .number) 0) (played commands lengths schedule .generations) (replicate mostRows 0)
 
 -- The schedule writer: 1 to 4 and the room as it was, or the schedule, which is legal and complete, and its length.
-pub record Writes (commands lengths before after : List ℕ) (r : Written) : Type 0 where
+pub record WritesSchedule (commands lengths before after : List ℕ) (r : Written) : Type 0 where
   pub verdict : numbered (r .verdict) ≡ unwritten commands lengths (length before)
   pub refused : (numbered (r .verdict) .number ≡ 0 → ⊥) → (r .length ≡ 0) × (after ≡ before)
   pub wrote : numbered (r .verdict) .number ≡ 0 → Filled commands lengths before after (r .length)

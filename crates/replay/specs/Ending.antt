@@ -15,7 +15,7 @@ use Rattle.replay.specs.declared.state.Replay.{Replay}
 use Rattle.replay.specs.declared.replay.Replayed.{Replayed}
 use Rattle.replay.specs.InOrder.{orElse}
 use Rattle.replay.specs.Barrier.{isSet}
-use Rattle.replay.specs.State.{run, waiting, barrierAt}
+use Rattle.replay.specs.State.{ranSoFar, waiting, barrierAt}
 use Rattle.replay.specs.Step.{allowed, command}
 
 -- A blocked thread with nothing left to run hasn't finished.
@@ -51,7 +51,7 @@ ended lengths s steps =
 pub record Ends (lengths : List ℕ) (s : Replay) : Type 0 where
   pub few-threads : length lengths ≤ mostThreads
   pub few-rows : total lengths ≤ mostRows
-  pub has-run : (t : ℕ) → t < length lengths → isBlocked s t ≡ true → 1 ≤ run s t
+  pub has-run : (t : ℕ) → t < length lengths → isBlocked s t ≡ true → 1 ≤ ranSoFar s t
 
 -- 5 and 7, judged step by step; then 6, 8, 9
 unfoldable pub judged : List ℕ → Replayed → Told

@@ -14,8 +14,8 @@ unfoldable pub start : Replay
 start = record { next = replicate mostThreads 0; waits = replicate mostThreads 0; barriers = replicate barriers (unset 0) }
 
 -- how many commands thread t has run
-abbrev pub run : Replay → ℕ → ℕ
-run s t = getD (s .next) t 0
+abbrev pub ranSoFar : Replay → ℕ → ℕ
+ranSoFar s t = getD (s .next) t 0
 
 -- what thread t waits for: 0, or the barrier plus 1
 abbrev pub waiting : Replay → ℕ → ℕ
@@ -26,7 +26,7 @@ barrierAt s b = getD (s .barriers) b (unset 0)
 
 -- thread t has run one command more
 abbrev pub advanced : Replay → ℕ → Replay
-advanced s t = record { next = set (s .next) t (run s t + 1); waits = s .waits; barriers = s .barriers }
+advanced s t = record { next = set (s .next) t (ranSoFar s t + 1); waits = s .waits; barriers = s .barriers }
 
 -- barrier b is v
 abbrev pub stored : Replay → ℕ → Barrier → Replay

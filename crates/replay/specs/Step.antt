@@ -15,7 +15,7 @@ use Rattle.replay.specs.declared.step.How.the-variants.{Mismatch, Ran}
 use Rattle.replay.specs.declared.step.Did.the-variants.{NotAllowed, Took}
 use Rattle.replay.specs.declared.step.Stepped.{Stepped}
 use Rattle.replay.specs.Barrier.{met, Small, top}
-use Rattle.replay.specs.State.{run, waiting, barrierAt, advanced, stored, blocked, freed}
+use Rattle.replay.specs.State.{ranSoFar, waiting, barrierAt, advanced, stored, blocked, freed}
 
 -- Arrive registers and goes on. Sync registers and blocks its thread. Read and write change no barrier.
 abbrev pub registers : List ℕ → ℕ → Bool
@@ -26,26 +26,26 @@ syncs commands c = eqb (kind commands c) sync
 
 -- A step is allowed if its thread exists, has a command left and isn't blocked.
 unfoldable pub allowed : List ℕ → Replay → ℕ → Bool
-allowed lengths s t = ltb t (length lengths) && (ltb (run s t) (getD lengths t 0) && eqb (waiting s t) 0)
+allowed lengths s t = ltb t (length lengths) && (ltb (ranSoFar s t) (getD lengths t 0) && eqb (waiting s t) 0)
 
 -- the next command of thread t
 abbrev pub command : List ℕ → Replay → ℕ → ℕ
-command lengths s t = firstRow lengths t + run s t
+command lengths s t = firstRow lengths t + ranSoFar s t
 
 -- the command ran, and has this generation
 abbrev pub ran : Replay → ℕ → ℕ → Stepped
 ran after c generation = record { after = after; did = Took (Ran c generation) }
 
 -- A sync that has registered blocks its thread; an arrive goes on.
-abbrev pub waits : Bool → Replay → ℕ → ℕ → Replay
-waits true s t b = blocked s t b
-waits false s t b = s
+abbrev pub blockedIf : Bool → Replay → ℕ → ℕ → Replay
+blockedIf true s t b = blocked s t b
+blockedIf false s t b = s
 
 -- What thread t's command c meets at barrier b. A mismatch keeps the state it met. When registrations reach the count, in that same step
 -- every thread blocked there is released; so a sync that completes its barrier never stays blocked.
 abbrev pub meeting : Replay → (t c : ℕ) → Bool → (b generation : ℕ) → Met → Stepped
 meeting s t c syncs b generation Clash = record { after = s; did = Took (Mismatch c) }
-meeting s t c syncs b generation (Stays v) = ran (waits syncs (advanced (stored s b v) t) t b) c generation
+meeting s t c syncs b generation (Stays v) = ran (blockedIf syncs (advanced (stored s b v) t) t b) c generation
 meeting s t c syncs b generation (Completes v) = ran (freed (advanced (stored s b v) t) b) c generation
 
 -- A command's generation is one more than the completed generations of its barrier when it registers.
@@ -70,14 +70,14 @@ Counts s = (b : ℕ) → b < barriers → Small (barrierAt s b)
 -- thread t can go on from a barrier that is there
 pub record Registers (s : Replay) (t b : ℕ) : Type 0 where
   pub thread : t < mostThreads
-  pub next : run s t < top
+  pub next : ranSoFar s t < top
   pub barrier : b < barriers
   pub small : Small (barrierAt s b)
 
 -- thread t can go on from a row that keeps the rules
 pub record Runs (commands : List ℕ) (s : Replay) (t c : ℕ) : Type 0 where
   pub thread : t < mostThreads
-  pub next : run s t < top
+  pub next : ranSoFar s t < top
   pub row : c < rows commands
   pub keeps : keeps commands c ≡ true
   pub counts : Counts s

@@ -1,7 +1,7 @@
 // A barrier: either unset, or expecting a count with what has registered so far.
 ghost use mathlib.Core.Path.{_≡_};
 ghost use Prim.Native.Nat.{_<_};
-ghost use Rattle.replay.specs.Barrier.{joined, met, Small, top};
+ghost use Rattle.replay.specs.Barrier.{oneMore, met, Small, top};
 
 pub(crate) enum Phase {
     Unset,
@@ -24,7 +24,7 @@ pub(crate) enum Met {
 // One more registers where `got` have, and the barrier is unset again when they reach the count.
 fn join(count: u32, got: u32, done: u32) -> Met
     requires { ⌜ (got < top) × (done < top) ⌝ }
-    ensures { λ r. ⌜ r ≡ joined count got done ⌝ }
+    ensures { λ r. ⌜ r ≡ oneMore count got done ⌝ }
 {
     if got + 1 == count {
         return Met::Completes(Barrier {

@@ -1,7 +1,7 @@
 // The schedule writer: always the lowest allowed thread steps.
 ghost use mathlib.Core.Path.{_≡_};
 ghost use Rattle.replay.specs.Writer.{goesOn, Fits, Filled};
-ghost use Rattle.replay.specs.Doors.{Writes};
+ghost use Rattle.replay.specs.Doors.{WritesSchedule};
 use crate::state::Replay;
 use crate::step::Did;
 use crate::step::How;
@@ -53,7 +53,7 @@ fn write(commands: &[u32], lengths: &[u32], room: &mut [u32]) -> usize
 }
 
 pub fn write_schedule(commands: &[u32], lengths: &[u32], room: &mut [u32]) -> Written
-    ensures { λ r. ⌜ Writes (now (commands .entry)) (now (lengths .entry)) (now (room .entry)) (now (room .exit)) r ⌝ }
+    ensures { λ r. ⌜ WritesSchedule (now (commands .entry)) (now (lengths .entry)) (now (room .entry)) (now (room .exit)) r ⌝ }
 {
     let verdict = check_tables(commands, lengths);
     if verdict.number().number != 0 {

@@ -6,7 +6,7 @@ use mir.Val.{Fits}
 use borrow.Author.Needs.{needs}
 use Rattle.tables.specs.Limits.{mostRows, mostThreads, barriers}
 use Rattle.tables.proofs.Rows.{end-most}
-use Rattle.replay.specs.State.{run}
+use Rattle.replay.specs.State.{ranSoFar}
 use Rattle.replay.proofs.Scans.{lowest-passes}
 use Rattle.replay.proofs.Endings.{ends-open, ends-blocked, ends-set, ends-clean}
 use Rattle.replay.proofs.state.Replay.ending.Statement.{statement}
@@ -20,7 +20,7 @@ unfolding mostRows mostThreads
 add-t16 c =
     let b = c .before .before .before in
     let a = b .before .before .before .before .args in
-    let n : Fits w32 (run (a .t1) (b .lowest-blocked .result)) = search needs in
+    let n : Fits w32 (ranSoFar (a .t1) (b .lowest-blocked .result)) = search needs in
     omega (arith, end-most (a .lengths .now) (min (b .lowest-blocked .result) mostThreads))
 
 sub-t17 : tie.Need-sub-t17
