@@ -11,7 +11,7 @@ use borrow.Author.Tests.{eq-eqb, ne-eqb}
 use Rattle.tables.specs.Limits.{mostRows, mostThreads}
 use Rattle.tables.specs.Rules.{Keeps, checked}
 use Rattle.tables.specs.declared.verdict.Told.{Told}
-use Rattle.tables.proofs.Rules.{keptPairs, passes, passes-zero}
+use Rattle.tables.proofs.Rules.{kept, passes, passes-zero}
 use Rattle.spelling.specs.Machine.{Outcome, flat}
 use Rattle.notation.specs.declared.reading.Reading.{Reading}
 use Rattle.notation.specs.declared.reading.Reading.the-variants.{Unfit, Over, Accepted}
@@ -116,7 +116,7 @@ module _ (text : List ℕ) where
       by Over e s = over (ap (λ (t : Told). t .number) (refused-told (read-told e) (λ z. omega arith))) s
       by (Accepted m t) e (x, d, w) =
           ⊎-elim
-          (λ (z : checked (numbers x) (programLengths x) .number ≡ 0). reviewable x (record { denotes = d; within = w; keeps = keptPairs (numbers x) (programLengths x) (passes-zero (numbers x) (programLengths x) z) }))
+          (λ (z : checked (numbers x) (programLengths x) .number ≡ 0). reviewable x (record { denotes = d; within = w; keeps = kept (numbers x) (programLengths x) (passes-zero (numbers x) (programLengths x) z) }))
           (λ (h : checked (numbers x) (programLengths x) .number ≡ 3).
           let q : ofText text .told ≡ checked (numbers x) (programLengths x) = denoted-told x d w ∙ refused-checked (numbers x) (programLengths x) (λ z. omega arith) (schedule (numbers x) (programLengths x)) _ _ in
           broken (ap (λ (t : Told). t .number) q ∙ h) x d q)
