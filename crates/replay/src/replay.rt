@@ -1,7 +1,7 @@
 // A whole schedule replayed, step by step, with nothing written.
 ghost use mathlib.Core.Path.{_≡_};
 ghost use Rattle.tables.specs.Rules.{Keeps};
-ghost use Rattle.replay.specs.Replay.{played};
+ghost use Rattle.replay.specs.Replay.{ends, played};
 use crate::state::Replay;
 use crate::step::Did;
 use crate::step::How;
@@ -16,6 +16,17 @@ pub(crate) struct Replayed {
     pub(crate) verdict: Verdict,
 }
 
+fn stop(state: Replay, generations: [u32; Table::ROWS], steps: usize, verdict: Verdict) -> Replayed
+    ensures { λ r. ⌜ r ≡ ends state generations steps verdict ⌝ }
+{
+    Replayed {
+        state,
+        generations,
+        steps,
+        verdict,
+    }
+}
+
 pub(crate) fn replay(commands: &[u32], lengths: &[u32], schedule: &[u32]) -> Replayed
     requires { ⌜ Keeps (now commands) (now lengths) ⌝ }
     ensures { λ r. ⌜ r ≡ played (now (commands .entry)) (now (lengths .entry)) (now (schedule .entry)) ⌝ }
@@ -28,21 +39,11 @@ pub(crate) fn replay(commands: &[u32], lengths: &[u32], schedule: &[u32]) -> Rep
         state = stepped.after;
         let did = stepped.did;
         let Did::Took(how) = did else {
-            return Replayed {
-                state,
-                generations,
-                steps,
-                verdict: Verdict::NotAllowed(steps),
-            };
+            return stop(state, generations, steps, Verdict::NotAllowed(steps));
         };
         match how {
             How::Mismatch(c) => {
-                return Replayed {
-                    state,
-                    generations,
-                    steps,
-                    verdict: Verdict::Mismatch(c),
-                };
+                return stop(state, generations, steps, Verdict::Mismatch(c));
             }
             How::Ran(c, generation) => {
                 generations[c] = generation;
@@ -50,10 +51,5 @@ pub(crate) fn replay(commands: &[u32], lengths: &[u32], schedule: &[u32]) -> Rep
         }
         steps += 1;
     }
-    Replayed {
-        state,
-        generations,
-        steps,
-        verdict: Verdict::Clean,
-    }
+    stop(state, generations, steps, Verdict::Clean)
 }

@@ -1,4 +1,5 @@
 -- `replay` meets its contract: what is left to play from the loop's state is what the whole comes to. Assumes nothing.
+use mathlib.Core.Path.{_∙_}
 use Prim.Native.Nat.{_-_}
 use native.Mathlib.Omega.{arith}
 use lib.ListN.{length}
@@ -27,16 +28,18 @@ step-requires c κs = let R = c .before .before .loop .inv in (R .standing .keep
 
 returns : tie.Need-returns Inv-loop μ-loop
 returns c =
-    let q = c .before .before .before in
+    let q = c .before .before .before .before in
     let t = q .before .before in
-    replaying-refused _ _ _ (t .before .loop .inv) (t .loop-test .taken) (q .step .result) (q .step .ensures) (c .enum-told .given .1)
+    c .stop .ensures
+    ∙ replaying-refused _ _ _ (t .before .loop .inv) (t .loop-test .taken) (q .step .result) (q .step .ensures) (c .before .enum-told .given .1)
 
 returns-2 : tie.Need-returns-2 Inv-loop μ-loop
 returns-2 c =
-    let w = c .before .before .before .before in
+    let w = c .before .before .before .before .before in
     let q = w .before .before .before in
     let t = q .before .before in
-    replaying-mismatch _ _ _ (t .before .loop .inv) (t .loop-test .taken) (q .step .result) (q .step .ensures) (w .did .given .1) (c .before .how .given .1)
+    c .stop2 .ensures
+    ∙ replaying-mismatch _ _ _ (t .before .loop .inv) (t .loop-test .taken) (q .step .result) (q .step .ensures) (w .did .given .1) (c .before .before .how .given .1)
 
 array-write-generations : tie.Need-array-write-generations Inv-loop μ-loop
 unfolding mostRows
@@ -58,7 +61,7 @@ loop-again c =
     replaying-more _ _ _ (t .before .loop .inv) (t .loop-test .taken) (q .step .result) (q .step .ensures) (w .did .given .1) (c .before .how2 .given .1)
 
 returns-3 : tie.Need-returns-3 Inv-loop μ-loop
-returns-3 c = replaying-end _ _ _ (c .before .loop .inv) (search needs)
+returns-3 c = c .stop3 .ensures ∙ replaying-end _ _ _ (c .before .before .loop .inv) (c .before .loop-test .left)
 
 pub replay-spec : {M : Type 1} → statement M
 replay-spec =
@@ -74,8 +77,10 @@ replay-spec =
     step-requires
     (λ c. search needs)
     (λ c. search needs)
+    (λ c κs. search needs)
     returns
     (λ c. search needs)
+    (λ c κs. search needs)
     returns-2
     (λ c. search needs)
     mul-generations
@@ -83,4 +88,5 @@ replay-spec =
     (λ c. search needs)
     (λ c. search needs)
     loop-again
+    (λ c κs. search needs)
     returns-3)
