@@ -10,14 +10,13 @@ use Rattle.tables.specs.Verdicts.{tell}
 use Rattle.tables.specs.declared.verdict.Told.{Told}
 use Rattle.spelling.specs.Machine.{Outcome, found, flat}
 use Rattle.spelling.specs.Over.{over}
-use Rattle.notation.specs.declared.automaton.State.the-variants.{Word}
+use Rattle.grammar.specs.declared.automaton.State.the-variants.{Word}
 use Rattle.notation.specs.declared.scan.Judged.{Judged}
 use Rattle.notation.specs.declared.scan.Judged.the-variants.{Refused, Passed}
 use Rattle.notation.specs.declared.reading.Reading.{Reading}
 use Rattle.notation.specs.declared.reading.Reading.the-variants.{Unfit, Over, Accepted}
-use Rattle.notation.specs.Tokens.{tokens, starts}
-use Rattle.notation.specs.Grammar.{threads}
-use Rattle.notation.specs.Automaton.{next, ended}
+use Rattle.grammar.specs.Tokens.{tokens, starts}
+use Rattle.grammar.specs.Automaton.{next, ended}
 
 -- a text has at most so many bytes
 unfoldable pub mostBytes : ℕ

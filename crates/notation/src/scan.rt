@@ -4,12 +4,12 @@ ghost use Prim.Native.Nat.{_+_, _≤_};
 ghost use lib.ListN.{length, set};
 ghost use Rattle.spelling.specs.Over.{over};
 ghost use Rattle.notation.specs.Reading.{judgedOf, rowNumbers, threadLengths, Rooms};
-use crate::automaton::Moved;
-use crate::automaton::State;
-use crate::automaton::ends;
-use crate::automaton::step;
-use crate::tokens::Met;
-use crate::tokens::token_at;
+use grammar::Met;
+use grammar::Moved;
+use grammar::State;
+use grammar::ends;
+use grammar::step;
+use grammar::token_at;
 
 // Refused at a place, or of the notation, with so many commands and threads.
 pub(crate) enum Judged {

@@ -10,7 +10,7 @@ use borrow.Author.Needs.{needs}
 use Rattle.notation.specs.declared.reading.Reading.{Reading}
 use Rattle.notation.specs.declared.reading.Reading.the-variants.{Unfit, Over, Accepted}
 use Rattle.notation.specs.Reading.{restAt, ahead}
-use Rattle.notation.proofs.Pieces.{rest-from}
+use Rattle.grammar.proofs.Pieces.{rest-from}
 use Rattle.notation.proofs.reading.Reading as R
 use Rattle.notation.proofs.reading.rest.Statement.{statement}
 use Rattle.notation.proofs.reading.rest.Tie as tie

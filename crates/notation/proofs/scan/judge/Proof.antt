@@ -14,9 +14,6 @@ Inv-loop text at₀ state₀ commands₀ threads₀ at state commands threads = 
 abbrev μ-loop : tie.MeasureT-loop
 μ-loop text at₀ state₀ commands₀ threads₀ at state commands threads = length text - at
 
-token-at-requires : tie.Need-token-at-requires Inv-loop μ-loop
-token-at-requires c κs = c .loop .inv .inside
-
 -- the end of the text
 returns : tie.Need-returns Inv-loop μ-loop
 returns c =
@@ -98,7 +95,7 @@ judge-spec =
     Inv-loop
     μ-loop
     (λ c. judging-start _)
-    token-at-requires
+    (λ c κs. search needs)
     (λ c. search needs)
     (λ c κs. search needs)
     returns

@@ -20,9 +20,6 @@ abbrev μ-loop : tie.MeasureT-loop
 loop-holds : tie.Need-loop-holds Inv-loop μ-loop
 loop-holds c = writing-start (c .before .before .before .pre)
 
-token-at-requires : tie.Need-token-at-requires Inv-loop μ-loop
-token-at-requires c κs = c .loop .inv .inside
-
 -- the end of the text
 same-length : tie.Need-same-length Inv-loop μ-loop
 same-length c = filling-long (c .before .before .before .loop .inv .rows)
@@ -148,7 +145,7 @@ write-spec =
     Inv-loop
     μ-loop
     loop-holds
-    token-at-requires
+    (λ c κs. search needs)
     (λ c. search needs)
     (λ c. search needs)
     same-length

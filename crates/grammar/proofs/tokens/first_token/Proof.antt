@@ -5,9 +5,9 @@ use lib.Seq.{length-take-le}
 use borrow.Author.Needs.{needs}
 use Rattle.spelling.specs.Bytes.{is}
 use Rattle.spelling.proofs.Runs.{run-le}
-use Rattle.notation.proofs.Pieces.{word-piece, number-piece, mark-piece}
-use Rattle.notation.proofs.tokens.first_token.Statement.{statement}
-use Rattle.notation.proofs.tokens.first_token.Tie as tie
+use Rattle.grammar.proofs.Pieces.{word-piece, number-piece, mark-piece}
+use Rattle.grammar.proofs.tokens.first_token.Statement.{statement}
+use Rattle.grammar.proofs.tokens.first_token.Tie as tie
 
 slice-aggregate-word : tie.Need-slice-aggregate-word
 slice-aggregate-word c =

@@ -15,13 +15,13 @@ use Rattle.spelling.specs.Words.{alike}
 use Rattle.spelling.specs.Numbers.{Means}
 use Rattle.spelling.proofs.Runs.{run-none, run-none-at, run-whole, run-stops}
 use Rattle.spelling.proofs.Numbers.{means-number}
-use Rattle.notation.specs.declared.tokens.Token.{Token}
-use Rattle.notation.specs.declared.tokens.Token.the-variants.{Access, Signal, Return, Number, Semi, Bars, Misfit}
-use Rattle.notation.specs.declared.tokens.Piece.{Piece}
-use Rattle.notation.specs.Spelling.{readWord, writeWord, arriveWord, syncWord, returnWord, Spelling, extends}
-use Rattle.notation.specs.Tokens.{wordOf, numeral, numberOf, sized, markOf, pieceOf, tokenOf, sizeOf}
-use Rattle.notation.proofs.Pieces.{by-word, by-number, by-piece, word-piece, number-piece}
-pub use Rattle.notation.proofs.Pieces.{pos, most}
+use Rattle.grammar.specs.declared.tokens.Token.{Token}
+use Rattle.grammar.specs.declared.tokens.Token.the-variants.{Access, Signal, Return, Number, Semi, Bars, Misfit}
+use Rattle.grammar.specs.declared.tokens.Piece.{Piece}
+use Rattle.grammar.specs.Spelling.{readWord, writeWord, arriveWord, syncWord, returnWord, Spelling, extends}
+use Rattle.grammar.specs.Tokens.{wordOf, numeral, numberOf, sized, markOf, pieceOf, tokenOf, sizeOf}
+use Rattle.grammar.proofs.Pieces.{by-word, by-number, by-piece, word-piece, number-piece}
+pub use Rattle.grammar.proofs.Pieces.{pos, most}
 
 -- every token is of the notation but a misfit
 abbrev pub Fits : Token → Type 0

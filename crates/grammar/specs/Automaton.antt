@@ -2,12 +2,12 @@
 use mathlib.Core.Bool.{Bool, true, false}
 use Prim.Native.Nat.{ℕ}
 use Rattle.spelling.specs.Machine.{Move, refuse, on, rowDone, threadDone, row}
-use Rattle.notation.specs.declared.tokens.Token.{Token}
-use Rattle.notation.specs.declared.tokens.Token.the-variants.{Access, Signal, Return, Number, Semi, Bars, Misfit}
-use Rattle.notation.specs.declared.automaton.State.{State}
-use Rattle.notation.specs.declared.automaton.State.the-variants.{Word, Address, Barrier, Count, Close, Part}
-use Rattle.notation.specs.declared.automaton.Moved.{Moved}
-use Rattle.notation.specs.declared.automaton.Moved.the-variants.{Refuse, On, Row, Thread}
+use Rattle.grammar.specs.declared.tokens.Token.{Token}
+use Rattle.grammar.specs.declared.tokens.Token.the-variants.{Access, Signal, Return, Number, Semi, Bars, Misfit}
+use Rattle.grammar.specs.declared.automaton.State.{State}
+use Rattle.grammar.specs.declared.automaton.State.the-variants.{Word, Address, Barrier, Count, Close, Part}
+use Rattle.grammar.specs.declared.automaton.Moved.{Moved}
+use Rattle.grammar.specs.declared.automaton.Moved.the-variants.{Refuse, On, Row, Thread}
 
 -- where the word of a command or `return` is expected
 abbrev pub atWord : Token → Moved

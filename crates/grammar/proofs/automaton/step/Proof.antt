@@ -1,9 +1,9 @@
 -- `step` meets its contract: an arm for each token that goes on, and one that refuses the others. Assumes nothing.
 use borrow.Author.Needs.{needs}
-use Rattle.notation.specs.Automaton.{stepped}
-use Rattle.notation.proofs.Steps.{refused}
-use Rattle.notation.proofs.automaton.step.Statement.{statement}
-use Rattle.notation.proofs.automaton.step.Tie as tie
+use Rattle.grammar.specs.Automaton.{stepped}
+use Rattle.grammar.proofs.Steps.{refused}
+use Rattle.grammar.proofs.automaton.step.Statement.{statement}
+use Rattle.grammar.proofs.automaton.step.Tie as tie
 
 returns : tie.Need-returns
 unfolding stepped

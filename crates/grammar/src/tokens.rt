@@ -1,8 +1,8 @@
 // The tokens of a text: a longest run of lower-case letters, a longest run of digits, `;`, `||`.
 ghost use mathlib.Core.Path.{_≡_};
-ghost use Prim.Native.Nat.{_≤_, _<_};
+ghost use Prim.Native.Nat.{_<_};
 ghost use lib.ListN.{length};
-ghost use Rattle.notation.specs.Tokens.{wordOf, numberOf, markOf, pieceOf, tokenAt};
+ghost use Rattle.grammar.specs.Tokens.{wordOf, numberOf, markOf, pieceOf, tokenAt};
 use spelling::Byte;
 use spelling::Numeral;
 use spelling::class_of;
@@ -11,7 +11,7 @@ use spelling::run_of;
 use spelling::same;
 use tables::Table;
 
-pub(crate) enum Token {
+pub enum Token {
     // `read` and `write`, by the kind of their row
     Access(u32),
     // `arrive` and `sync`
@@ -31,7 +31,7 @@ pub(crate) struct Piece {
 }
 
 // What stands at a place after its blanks: the end, or a token with its first byte's place and the place past it.
-pub(crate) enum Met {
+pub enum Met {
     End(usize),
     Token(Token, usize, usize),
 }
@@ -108,10 +108,13 @@ fn first_token(bytes: &[u8]) -> Piece
     mark(bytes)
 }
 
-pub(crate) fn token_at(text: &[u8], at: usize) -> Met
-    requires { ⌜ at ≤ length (now text) ⌝ }
+// The token at a place; past the text it is the end there.
+pub fn token_at(text: &[u8], at: usize) -> Met
     ensures { λ r. ⌜ r ≡ tokenAt (now (text .entry)) at ⌝ }
 {
+    if text.len() < at {
+        return Met::End(at);
+    }
     let from = at + run_of(&text[at..], Byte::BLANK);
     if from == text.len() {
         return Met::End(from);

@@ -2,9 +2,9 @@
 use mathlib.Core.Path.{refl, sym, _∙_}
 use mathlib.Core.Bool.{true, false}
 use borrow.Author.Needs.{needs}
-use Rattle.notation.proofs.Pieces.{word-is}
-use Rattle.notation.proofs.tokens.word.Statement.{statement}
-use Rattle.notation.proofs.tokens.word.Tie as tie
+use Rattle.grammar.proofs.Pieces.{word-is}
+use Rattle.grammar.proofs.tokens.word.Statement.{statement}
+use Rattle.grammar.proofs.tokens.word.Tie as tie
 
 returns : tie.Need-returns
 returns c = word-is _ true _ _ _ _ (sym (c .before .same .ensures) ∙ c .if1 .taken) refl refl refl refl

@@ -9,18 +9,18 @@ use Rattle.spelling.specs.Numbers.{mostNumber, decimal, Means}
 use Rattle.spelling.specs.Spells.{none, gap, token}
 use Rattle.spelling.proofs.Laws.{Lexer, Grammar, To, Goes, Walk}
 use Rattle.spelling.proofs.Machines.{found-none}
-use Rattle.notation.specs.declared.tokens.Token.{Token}
-use Rattle.notation.specs.declared.tokens.Token.the-variants.{Access, Signal, Return, Number, Semi, Bars}
-use Rattle.notation.specs.declared.automaton.State.{State}
-use Rattle.notation.specs.declared.automaton.State.the-variants.{Word, Address, Barrier, Count, Close, Part}
-use Rattle.notation.specs.Tokens.{sizeOf, tokenOf}
-use Rattle.notation.specs.Spelling.{Spelling, extends, returnWord}
-use Rattle.notation.specs.Grammar as G
-use Rattle.notation.specs.Grammar.{access, signal, threadTokens, behind, programTokens, Whole, Spells}
-use Rattle.notation.specs.Automaton.{stepped, ended, move, next}
-use Rattle.notation.proofs.Lexes.{Fits, token-found, size-found, some, tight, spelt, apart, pos, most, blank-ends}
-use Rattle.notation.proofs.Steps.{by-step}
-use Rattle.notation.proofs.Programs.{program-found}
+use Rattle.grammar.specs.declared.tokens.Token.{Token}
+use Rattle.grammar.specs.declared.tokens.Token.the-variants.{Access, Signal, Return, Number, Semi, Bars}
+use Rattle.grammar.specs.declared.automaton.State.{State}
+use Rattle.grammar.specs.declared.automaton.State.the-variants.{Word, Address, Barrier, Count, Close, Part}
+use Rattle.grammar.specs.Tokens.{sizeOf, tokenOf}
+use Rattle.grammar.specs.Spelling.{Spelling, extends, returnWord}
+use Rattle.grammar.specs.Grammar as G
+use Rattle.grammar.specs.Grammar.{access, signal, threadTokens, behind, programTokens, Whole, Spells}
+use Rattle.grammar.specs.Automaton.{stepped, ended, move, next}
+use Rattle.grammar.proofs.Lexes.{Fits, token-found, size-found, some, tight, spelt, apart, pos, most, blank-ends}
+use Rattle.grammar.proofs.Steps.{by-step}
+use Rattle.grammar.proofs.Programs.{program-found}
 
 -- the tokens of a program from a thread's command on
 abbrev rest : List G.Command → List (List G.Command) → List Token

@@ -7,8 +7,8 @@ use Prim.Native.Nat.{ℕ}
 use Rattle.tables.specs.Rows.{read, write, arrive, sync}
 use Rattle.spelling.specs.Bytes.{is, letter, digit}
 use Rattle.spelling.specs.Numbers.{Means}
-use Rattle.notation.specs.declared.tokens.Token.{Token}
-use Rattle.notation.specs.declared.tokens.Token.the-variants.{Access, Signal, Return, Number, Semi, Bars, Misfit}
+use Rattle.grammar.specs.declared.tokens.Token.{Token}
+use Rattle.grammar.specs.declared.tokens.Token.the-variants.{Access, Signal, Return, Number, Semi, Bars, Misfit}
 
 -- the words
 abbrev pub readWord : List ℕ

@@ -1,9 +1,9 @@
 // What the reader expects next, and what a token does.
 ghost use mathlib.Core.Path.{_≡_};
-ghost use Rattle.notation.specs.Automaton.{stepped, ended};
+ghost use Rattle.grammar.specs.Automaton.{stepped, ended};
 use crate::tokens::Token;
 
-pub(crate) enum State {
+pub enum State {
     // the word of a command, or `return`
     Word,
     // the address of an access, with its kind
@@ -19,14 +19,14 @@ pub(crate) enum State {
 }
 
 // What a token does: it doesn't fit; it leads on; it completes a row, or a thread.
-pub(crate) enum Moved {
+pub enum Moved {
     Refuse,
     On(State),
     Row(u32, u32, u32),
     Thread,
 }
 
-pub(crate) fn step(state: State, token: Token) -> Moved
+pub fn step(state: State, token: Token) -> Moved
     ensures { λ r. ⌜ r ≡ stepped state token ⌝ }
 {
     match state {
@@ -60,7 +60,7 @@ pub(crate) fn step(state: State, token: Token) -> Moved
 }
 
 // May the text end here?
-pub(crate) fn ends(state: State) -> bool
+pub fn ends(state: State) -> bool
     ensures { λ r. ⌜ r ≡ ended state ⌝ }
 {
     match state {

@@ -7,11 +7,11 @@ use Prim.Native.Nat.{ℕ, suc, _+_}
 use native.Mathlib.Omega.{arith}
 use lib.ListN.{length}
 use Rattle.spelling.specs.Machine.{Row, outcome, found}
-use Rattle.notation.specs.declared.tokens.Token.{Token}
-use Rattle.notation.specs.declared.automaton.State.the-variants.{Word, Part}
-use Rattle.notation.specs.Grammar as G
-use Rattle.notation.specs.Grammar.{access, signal, threadTokens, behind, Program, programTokens, rowOf, joined, programRows, programLengths}
-use Rattle.notation.specs.Automaton.{stepped, ended, next}
+use Rattle.grammar.specs.declared.tokens.Token.{Token}
+use Rattle.grammar.specs.declared.automaton.State.the-variants.{Word, Part}
+use Rattle.grammar.specs.Grammar as G
+use Rattle.grammar.specs.Grammar.{access, signal, threadTokens, behind, Program, programTokens, rowOf, joined, programRows, programLengths}
+use Rattle.grammar.specs.Automaton.{stepped, ended, next}
 
 -- a thread's tokens, where what follows them is found to be rows and lengths
 thread-found : (cs : List G.Command) (ts : List Token) (n : ℕ) (rs : List Row) (ls : List ℕ) → found next ended ts Part 0 ≡ outcome rs ls none

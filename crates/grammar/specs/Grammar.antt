@@ -5,9 +5,9 @@ use Prim.Native.Nat.{ℕ}
 use lib.ListN.{length}
 use Rattle.spelling.specs.Machine.{Row, row}
 use Rattle.spelling.specs.Spells as S
-use Rattle.notation.specs.declared.tokens.Token.{Token}
-use Rattle.notation.specs.declared.tokens.Token.the-variants.{Access, Signal, Return, Number, Semi, Bars}
-use Rattle.notation.specs.Spelling.{Spelling, extends}
+use Rattle.grammar.specs.declared.tokens.Token.{Token}
+use Rattle.grammar.specs.declared.tokens.Token.the-variants.{Access, Signal, Return, Number, Semi, Bars}
+use Rattle.grammar.specs.Spelling.{Spelling, extends}
 
 -- a command: an access of a kind to an address; a signal of a kind to a barrier, with a count
 pub data Command : Type 0 where

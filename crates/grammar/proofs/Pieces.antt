@@ -5,7 +5,7 @@ use mathlib.Core.List.{List, [], _∷_}
 use Prim.Native.Nat.{ℕ, _+_, _-_, _≤_, _<_}
 use native.Mathlib.Omega.{arith}
 use lib.Dec.{eqb}
-use lib.ListN.{length, getD, take, drop, length-take, length-drop}
+use lib.ListN.{length, getD, take, drop, length-take, length-drop, drop-of-length-le}
 use lib.Seq.{take-all, drop-drop}
 use borrow.Author.Tests.{eq-eqb, ne-eqb, eqb-true}
 use Rattle.tables.specs.Rows.{read, write, arrive, sync}
@@ -17,12 +17,12 @@ use Rattle.spelling.specs.declared.number.Numeral.the-variants as N
 use Rattle.spelling.proofs.Runs.{run-pos-at, run-le}
 use Rattle.spelling.proofs.Words.{both, alike-same}
 use Rattle.spelling.proofs.Numbers.{number-means}
-use Rattle.notation.specs.declared.tokens.Token.{Token}
-use Rattle.notation.specs.declared.tokens.Token.the-variants.{Access, Signal, Return, Number, Semi, Bars, Misfit}
-use Rattle.notation.specs.declared.tokens.Piece.{Piece}
-use Rattle.notation.specs.declared.tokens.Met.the-variants as M
-use Rattle.notation.specs.Spelling.{readWord, writeWord, arriveWord, syncWord, returnWord}
-use Rattle.notation.specs.Tokens.{wordOf, numeral, numberOf, sized, markOf, pieceOf, sizeOf, tokenAt}
+use Rattle.grammar.specs.declared.tokens.Token.{Token}
+use Rattle.grammar.specs.declared.tokens.Token.the-variants.{Access, Signal, Return, Number, Semi, Bars, Misfit}
+use Rattle.grammar.specs.declared.tokens.Piece.{Piece}
+use Rattle.grammar.specs.declared.tokens.Met.the-variants as M
+use Rattle.grammar.specs.Spelling.{readWord, writeWord, arriveWord, syncWord, returnWord}
+use Rattle.grammar.specs.Tokens.{wordOf, numeral, numberOf, sized, markOf, pieceOf, sizeOf, tokenAt}
 
 -- with the answers of its tests
 pub word-is : (w : List ℕ) (a b c d e : Bool)
@@ -109,6 +109,11 @@ module _ (s : List ℕ) (h : 0 < length s) where
 -- a slice from a place on
 pub rest-from : (l : List ℕ) (p : ℕ) → take (length l - p) (drop p l) ≡ drop p l
 rest-from l p = take-all (length l - p) (drop p l) (omega (arith, length-drop p l))
+
+-- past the text stands its end
+pub end-past : (text : List ℕ) (at : ℕ) → length text < at → M.End at ≡ tokenAt text at
+unfolding tokenAt run
+end-past text at h = let z : at + 0 ≡ at = omega arith in rw (drop-of-length-le text {i = at} (omega (arith, h)), z)
 
 -- n blanks stand at a place
 module _ (text : List ℕ) (at n : ℕ) (h : at ≤ length text) (r : n ≡ blanks (take (length text - at) (drop at text))) where

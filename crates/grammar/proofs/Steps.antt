@@ -5,15 +5,15 @@ use mathlib.Core.List.{List, [], _∷_}
 use Prim.Native.Nat.{ℕ}
 use types.Run.{OneOf, miss}
 use denote.Enum.Declared
-use Rattle.notation.specs.declared.tokens.Token.{Token}
-use Rattle.notation.specs.declared.tokens.Token.the-variants.{Access, Signal, Return, Number, Semi, Bars, Misfit}
-use Rattle.notation.specs.declared.automaton.State.{State}
-use Rattle.notation.specs.declared.automaton.State.the-variants.{Word, Address, Barrier, Count, Close, Part}
-use Rattle.notation.specs.declared.automaton.Moved.{Moved}
-use Rattle.notation.specs.declared.automaton.Moved.the-variants.{Refuse, On, Row, Thread}
-use Rattle.notation.specs.Automaton.{atWord, atNumber, atClose, atPart, stepped, ended, move}
-use Rattle.notation.proofs.tokens.Token as T
-use Rattle.notation.proofs.automaton.State as S
+use Rattle.grammar.specs.declared.tokens.Token.{Token}
+use Rattle.grammar.specs.declared.tokens.Token.the-variants.{Access, Signal, Return, Number, Semi, Bars, Misfit}
+use Rattle.grammar.specs.declared.automaton.State.{State}
+use Rattle.grammar.specs.declared.automaton.State.the-variants.{Word, Address, Barrier, Count, Close, Part}
+use Rattle.grammar.specs.declared.automaton.Moved.{Moved}
+use Rattle.grammar.specs.declared.automaton.Moved.the-variants.{Refuse, On, Row, Thread}
+use Rattle.grammar.specs.Automaton.{atWord, atNumber, atClose, atPart, stepped, ended}
+use Rattle.grammar.proofs.tokens.Token as T
+use Rattle.grammar.proofs.automaton.State as S
 
 -- a property of a token and its move holds of every token, once it holds of those that go on and of refusal
 module _ (P : Token → Moved → Type 0) (off : (t : Token) → P t Refuse) where
@@ -93,5 +93,3 @@ no-end (Barrier k) h = refl
 no-end (Count k b) h = refl
 no-end Close h = refl
 no-end Part h = absurd (miss (0 ∷ 1 ∷ 2 ∷ 3 ∷ 4 ∷ []) 5 tt h)
-
--- what goes on is of the notation

@@ -1,7 +1,7 @@
 -- `number` meets its contract. Assumes nothing.
 use borrow.Author.Needs.{needs}
-use Rattle.notation.proofs.tokens.number.Statement.{statement}
-use Rattle.notation.proofs.tokens.number.Tie as tie
+use Rattle.grammar.proofs.tokens.number.Statement.{statement}
+use Rattle.grammar.proofs.tokens.number.Tie as tie
 
 returns : tie.Need-returns
 returns c = rw (← c .before .before .before .read-number .ensures, c .before .n .given .1)

@@ -11,12 +11,12 @@ use Rattle.spelling.specs.Numbers.{numeralOf}
 use Rattle.spelling.specs.Tokens as T
 use Rattle.spelling.specs.declared.number.Numeral.{Numeral}
 use Rattle.spelling.specs.declared.number.Numeral.the-variants as N
-use Rattle.notation.specs.declared.tokens.Token.{Token}
-use Rattle.notation.specs.declared.tokens.Token.the-variants.{Access, Signal, Return, Number, Semi, Bars, Misfit}
-use Rattle.notation.specs.declared.tokens.Piece.{Piece}
-use Rattle.notation.specs.declared.tokens.Met.{Met}
-use Rattle.notation.specs.declared.tokens.Met.the-variants as M
-use Rattle.notation.specs.Spelling.{readWord, writeWord, arriveWord, syncWord, returnWord}
+use Rattle.grammar.specs.declared.tokens.Token.{Token}
+use Rattle.grammar.specs.declared.tokens.Token.the-variants.{Access, Signal, Return, Number, Semi, Bars, Misfit}
+use Rattle.grammar.specs.declared.tokens.Piece.{Piece}
+use Rattle.grammar.specs.declared.tokens.Met.{Met}
+use Rattle.grammar.specs.declared.tokens.Met.the-variants as M
+use Rattle.grammar.specs.Spelling.{readWord, writeWord, arriveWord, syncWord, returnWord}
 
 -- the token of a run of letters, of a run of digits, and of a list that begins with neither
 unfoldable pub wordOf : List ℕ → Token

@@ -5,9 +5,9 @@ use native.Mathlib.Omega.{arith}
 use lib.Dec.{eqb}
 use lib.ListN.{getD, List·getD-eq-default}
 use borrow.Author.Needs.{needs}
-use Rattle.notation.proofs.Pieces.{semi-is, mark-is}
-use Rattle.notation.proofs.tokens.mark.Statement.{statement}
-use Rattle.notation.proofs.tokens.mark.Tie as tie
+use Rattle.grammar.proofs.Pieces.{semi-is, mark-is}
+use Rattle.grammar.proofs.tokens.mark.Statement.{statement}
+use Rattle.grammar.proofs.tokens.mark.Tie as tie
 
 returns-3 : tie.Need-returns-3
 returns-3 c =
