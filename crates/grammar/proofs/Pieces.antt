@@ -107,8 +107,8 @@ module _ (s : List ℕ) (h : 0 < length s) where
       (λ e. omega (arith, length-take 2 s, ap length e)) (omega arith)
 
 -- a slice from a place on
-pub rest-from : (l : List ℕ) (p : ℕ) → take (length l - p) (drop p l) ≡ drop p l
-rest-from l p = take-all (length l - p) (drop p l) (omega (arith, length-drop p l))
+pub slice-from : (l : List ℕ) (p : ℕ) → take (length l - p) (drop p l) ≡ drop p l
+slice-from l p = take-all (length l - p) (drop p l) (omega (arith, length-drop p l))
 
 -- past the text stands its end
 pub end-past : (text : List ℕ) (at : ℕ) → length text < at → M.End at ≡ tokenAt text at
@@ -121,7 +121,7 @@ module _ (text : List ℕ) (at n : ℕ) (h : at ≤ length text) (r : n ≡ blan
   bytes = drop (at + n) text
 
   counts : blanks (drop at text) ≡ n
-  counts = sym (r ∙ ap blanks (rest-from text at))
+  counts = sym (r ∙ ap blanks (slice-from text at))
 
   pub from-most : at + n ≤ length text
   from-most = omega (arith, counts, run-le (is blank) (drop at text), length-drop at text)
@@ -138,11 +138,11 @@ module _ (text : List ℕ) (at n : ℕ) (h : at ≤ length text) (r : n ≡ blan
     some-left = omega (arith, length-drop (at + n) text, from-most, e)
 
     pub some-from : 0 < length (take (length text - (at + n)) bytes)
-    some-from = rw (rest-from text (at + n)) some-left
+    some-from = rw (slice-from text (at + n)) some-left
 
     module _ (p : Piece) (q : p ≡ pieceOf (take (length text - (at + n)) bytes)) where
       is-piece : p ≡ pieceOf bytes
-      is-piece = q ∙ rw (rest-from text (at + n))
+      is-piece = q ∙ rw (slice-from text (at + n))
 
       pub token-most : at + n + p .size ≤ length text
       token-most = omega (arith, ap (λ (x : Piece). x .size) is-piece, most bytes some-left, length-drop (at + n) text, from-most)
