@@ -82,10 +82,6 @@ restAt (Accepted m t) n = n
 abbrev pub restOf : Reading → List ℕ → List ℕ
 restOf r text = drop (restAt r (length text)) text
 
--- n bytes on from a place in memory, which is a block and an offset in it
-abbrev pub ahead : ℕ × ℕ → ℕ → ℕ × ℕ
-ahead x n = (x .0, n + x .1)
-
 -- what the writing pass asks: few rows and threads, and rooms that hold them
 pub record Rooms (text commands lengths : List ℕ) : Type 0 where
   pub few-rows : length (readOf text .rows) ≤ mostRows
