@@ -1,6 +1,6 @@
 -- `rest` meets its contract: the part of the text that a reader has at the refusal's place, else at the text's end. Assumes nothing.
 use mathlib.Core.Path.{_≡_}
-use mathlib.Core.List.{List, [], _∷_}
+use mathlib.Core.List.{[], _∷_}
 use Prim.Native.Nat.{ℕ, min}
 use native.Mathlib.Omega.{arith}
 use lib.ListN.{length}
