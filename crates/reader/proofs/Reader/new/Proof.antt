@@ -1,4 +1,4 @@
--- `Reader::new` meets its contract: a walk of its MIR, by hand. A `Reader` is made of the slice passed and 0, in the result's local.
+-- `Reader::new` meets its contract: a walk of its MIR, by hand. A reader is made of the text passed and 0, in the result's local.
 -- A `&[u8]` is Copy, so what it owns is had twice: once for the text at exit, and once inside the result, beside the facts of at.
 -- Assumes nothing.
 use mathlib.Core.Path.{refl}
