@@ -41,16 +41,16 @@ use Rattle.reader.proofs.Reader.moved as moved
 abbrev pub B : Lfts 1 → RattleType
 B κs = T.the-row (namedLft 1 0 tt κs)
 
--- the type of the text, and the machine value that a text has
-abbrev pub Text : Lft → RattleType
-Text κ = ShrSlice (named 0) κ u8
+-- the type of the lent text, and the machine value that it has
+abbrev pub Lent : Lft → RattleType
+Lent κ = ShrSlice (named 0) κ u8
 
 abbrev pub val : RefT (List ℕ) → Val
 val s = sliceVal (s .ptr) (length (s .now))
 
--- what is said of a slice that is the rest of a text at a place
-abbrev pub Said : RefT (List ℕ) → ℕ → RefT (List ℕ) → Type 0
-Said s n t = (now t ≡ restIn (now s) n) × (t .ptr ≡ ahead (s .ptr) (placeIn (now s) n))
+-- a slice is the rest of a text at a place: its bytes, and where it points
+abbrev pub IsRest : RefT (List ℕ) → ℕ → RefT (List ℕ) → Type 0
+IsRest s n t = (now t ≡ restIn (now s) n) × (t .ptr ≡ ahead (s .ptr) (placeIn (now s) n))
 
 module _ {M : Type 1} (𝓤 : URA M) (H : Heap 𝓤) (A : Atoms 𝓤) (mem : Memory → SProp 𝓤) (run : Routine → Fun 𝓤) where
   abbrev pub New : Contract 𝓤
@@ -78,7 +78,7 @@ module _ {M : Type 1} (𝓤 : URA M) (H : Heap 𝓤) (A : Atoms 𝓤) (W : Given
     vd = (d .text, (d .at, tt))
 
     pub apart : (P : SProp 𝓤)
-        → ent 𝓤 (⋆ 𝓤 H A ((‵ (flft κ q) ⊛ ‵ ftrue) ∷ ‵ (owns (Text κ ∷ usize ∷ []) vd (val (d .text) ∷ [], (vint w64 (d .at) ∷ [], tt))) ∷ [])) P → d .at < 2 ^ 64
+        → ent 𝓤 (⋆ 𝓤 H A ((‵ (flft κ q) ⊛ ‵ ftrue) ∷ ‵ (owns (Lent κ ∷ usize ∷ []) vd (val (d .text) ∷ [], (vint w64 (d .at) ∷ [], tt))) ∷ [])) P → d .at < 2 ^ 64
         → ent 𝓤 (⋆ 𝓤 H A ((‵ (flft κ q) ⊛ ‵ ftrue) ∷ ‵ (owns (B (κ, tt) ∷ []) (d, tt) (mach ∷ [], tt)) ∷ [])) (sep 𝓤 P (sem 𝓤 H A Own))
     apart P asked fits =
         qed W ((‵ (flft κ q) ⊛ ‵ ftrue) ∷ ‵ (owns (B (κ, tt) ∷ []) (d, tt) (mach ∷ [], tt)) ∷ []) ∵
@@ -93,12 +93,12 @@ module _ {M : Type 1} (𝓤 : URA M) (H : Heap 𝓤) (A : Atoms 𝓤) (W : Given
     abbrev pub to-new : New 𝓤 H A mem run .Ghost
     to-new = (((κ, tt), (q, tt), tt, (s, tt), (val s ∷ [], tt)), tt)
 
-    pub goes-new : ent 𝓤 (⋆ 𝓤 H A ((‵ (flft κ q) ⊛ ‵ ftrue) ∷ ‵ (owns (Text κ ∷ usize ∷ []) (s, (n, tt)) (val s ∷ [], (vint w64 n ∷ [], tt))) ∷ []))
-        (sep 𝓤 (New 𝓤 H A mem run .pre to-new) (sem 𝓤 H A (Text κ .own s (val s ∷ []))))
+    pub goes-new : ent 𝓤 (⋆ 𝓤 H A ((‵ (flft κ q) ⊛ ‵ ftrue) ∷ ‵ (owns (Lent κ ∷ usize ∷ []) (s, (n, tt)) (val s ∷ [], (vint w64 n ∷ [], tt))) ∷ []))
+        (sep 𝓤 (New 𝓤 H A mem run .pre to-new) (sem 𝓤 H A (Lent κ .own s (val s ∷ []))))
     goes-new =
-        qed W ((‵ (flft κ q) ⊛ ‵ ftrue) ∷ ‵ (owns (Text κ ∷ usize ∷ []) (s, (n, tt)) (val s ∷ [], (vint w64 n ∷ [], tt))) ∷ []) ∵
-        move ! (1 ∷ []) $ fsplit ! $ move ! (1 ∷ []) $ drop ! $ use1 W (‵ (Text κ .own s (val s ∷ [])) ⊛ ‵ (Text κ .own s (val s ∷ []))) (shr-slice-copy 𝓤 H A W (named 0) κ u8 .twice s (val s ∷ [])) $ split ! $
-        nothing ! $ move ! (1 ∷ 0 ∷ []) $ fjoin ! $ move ! (2 ∷ 0 ∷ []) $ use2 W (raw (New 𝓤 H A mem run .pre to-new)) (qed W ((‵ (flft κ q) ⊛ ‵ ftrue) ∷ ‵ (owns (Text κ ∷ []) (s, tt) (val s ∷ [], tt)) ∷ []) ∵ join ! $ frame ! $ done !) $ frame ! $ done !
+        qed W ((‵ (flft κ q) ⊛ ‵ ftrue) ∷ ‵ (owns (Lent κ ∷ usize ∷ []) (s, (n, tt)) (val s ∷ [], (vint w64 n ∷ [], tt))) ∷ []) ∵
+        move ! (1 ∷ []) $ fsplit ! $ move ! (1 ∷ []) $ drop ! $ use1 W (‵ (Lent κ .own s (val s ∷ [])) ⊛ ‵ (Lent κ .own s (val s ∷ []))) (shr-slice-copy 𝓤 H A W (named 0) κ u8 .twice s (val s ∷ [])) $ split ! $
+        nothing ! $ move ! (1 ∷ 0 ∷ []) $ fjoin ! $ move ! (2 ∷ 0 ∷ []) $ use2 W (raw (New 𝓤 H A mem run .pre to-new)) (qed W ((‵ (flft κ q) ⊛ ‵ ftrue) ∷ ‵ (owns (Lent κ ∷ []) (s, tt) (val s ∷ [], tt)) ∷ []) ∵ join ! $ frame ! $ done !) $ frame ! $ done !
 
     pub new-said : (r : Reader) → ent 𝓤 (ensured 𝓤 H A new.ended (new.clauses 𝓤 H A mem run) (κ, tt) (s, tt) tt r) (fact 𝓤 ((r .text ≡ s) × (r .at ≡ 0)))
     new-said r = exE 𝓤 _ (λ ws. snd∗ 𝓤 (sem 𝓤 H A (lasts new.ended (κ, tt) (s, tt) ws)) (fact 𝓤 ((r .text ≡ s) × (r .at ≡ 0))))

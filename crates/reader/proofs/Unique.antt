@@ -6,7 +6,7 @@ use denote.Ref.{RefT, now}
 use Rattle.grammar.specs.Tokens.{tokenAt}
 use Rattle.grammar.specs.declared.tokens.Met.{Met}
 use Rattle.reader.specs.declared.Reader.{Reader}
-use Rattle.reader.proofs.Standing.{Said}
+use Rattle.reader.proofs.Standing.{IsRest}
 
 -- a reader is its text and its place
 reader-one : {text : RefT (List ℕ)} {at : ℕ} {a b : Reader} → (a .text ≡ text) × (a .at ≡ at) → (b .text ≡ text) × (b .at ≡ at) → a ≡ b
@@ -24,8 +24,8 @@ token-from-one text at p q = p ∙ sym q
 pub token-one : (self : Reader) {a b : Met} → a ≡ tokenAt (now (self .text)) (self .at) → b ≡ tokenAt (now (self .text)) (self .at) → a ≡ b
 token-one self = token-from-one (self .text) (self .at)
 
-pub rest-from-one : (text : RefT (List ℕ)) (at : ℕ) (s t : RefT (List ℕ)) → Said text at s → Said text at t → (now s ≡ now t) × (s .ptr ≡ t .ptr)
+pub rest-from-one : (text : RefT (List ℕ)) (at : ℕ) (s t : RefT (List ℕ)) → IsRest text at s → IsRest text at t → (now s ≡ now t) × (s .ptr ≡ t .ptr)
 rest-from-one text at s t (p, q) (p′, q′) = (p ∙ sym p′, q ∙ sym q′)
 
-pub rest-one : (self : Reader) (s t : RefT (List ℕ)) → Said (self .text) (self .at) s → Said (self .text) (self .at) t → (now s ≡ now t) × (s .ptr ≡ t .ptr)
+pub rest-one : (self : Reader) (s t : RefT (List ℕ)) → IsRest (self .text) (self .at) s → IsRest (self .text) (self .at) t → (now s ≡ now t) × (s .ptr ≡ t .ptr)
 rest-one self = rest-from-one (self .text) (self .at)

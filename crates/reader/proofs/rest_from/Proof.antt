@@ -36,7 +36,7 @@ use denote.Triple.Walked.{says, Stays, stay-none, stay-none-slice, walkOf, goes-
 use denote.Exit.{yes}
 use denote.Triple.Clauses.{ensured, lasts}
 use Rattle.reader.specs.declared.Reader.{Reader}
-use Rattle.reader.proofs.Standing.{B, Text, val, Said, New, Moved, to-new, goes-new, new-said, to-moved, goes-moved, moved-said}
+use Rattle.reader.proofs.Standing.{B, Lent, val, IsRest, New, Moved, to-new, goes-new, new-said, to-moved, goes-moved, moved-said}
 use Rattle.reader.proofs.Reader as T
 use Rattle.reader.proofs.Reader.Laws as T′
 use Rattle.reader.proofs.Reader.new as new
@@ -76,7 +76,7 @@ module _ {M : Type 1} (𝓤 : URA M) (H : Heap 𝓤) (A : Atoms 𝓤) (W : Given
   Post = walkOf 𝓤 H A rest-from.ended stayed (rest-from.clauses 𝓤 H A mem run) .post (((κ, tt), (q, tt), tt, (s, (n, tt)), at), tt)
 
   abbrev Own : Fml
-  Own = Text κ .own s (val s ∷ [])
+  Own = Lent κ .own s (val s ∷ [])
 
   -- the call of `rest`
   abbrev to-rest : Reader → Val → Rest 𝓤 H A mem run .Ghost
@@ -85,17 +85,17 @@ module _ {M : Type 1} (𝓤 : URA M) (H : Heap 𝓤) (A : Atoms 𝓤) (W : Given
   goes-rest : (r : Reader) (u : Val) → ent 𝓤 (⋆ 𝓤 H A (‵ (B (κ, tt) .own r (u ∷ [])) ∷ (‵ (flft κ q) ⊛ ‵ ftrue) ∷ [])) (Rest 𝓤 H A mem run .pre (to-rest r u))
   goes-rest r u = qed W (‵ (B (κ, tt) .own r (u ∷ [])) ∷ (‵ (flft κ q) ⊛ ‵ ftrue) ∷ []) ∵ nothing ! $ move ! (1 ∷ 0 ∷ []) $ fjoin ! $ move ! (1 ∷ 0 ∷ []) $ join ! $ frame ! $ done !
 
-  rest-said : (r : Reader) (t : RefT (List ℕ)) → ent 𝓤 (ensured 𝓤 H A rest.ended (rest.clauses 𝓤 H A mem run) (κ, tt) (r, tt) tt t) (fact 𝓤 (Said (r .text) (r .at) t))
-  rest-said r t = exE 𝓤 _ (λ ws. snd∗ 𝓤 (sem 𝓤 H A (lasts rest.ended (κ, tt) (r, tt) ws)) (fact 𝓤 (Said (r .text) (r .at) t)))
+  rest-said : (r : Reader) (t : RefT (List ℕ)) → ent 𝓤 (ensured 𝓤 H A rest.ended (rest.clauses 𝓤 H A mem run) (κ, tt) (r, tt) tt t) (fact 𝓤 (IsRest (r .text) (r .at) t))
+  rest-said r t = exE 𝓤 _ (λ ws. snd∗ 𝓤 (sem 𝓤 H A (lasts rest.ended (κ, tt) (r, tt) ws)) (fact 𝓤 (IsRest (r .text) (r .at) t)))
 
-  exits : (t : RefT (List ℕ)) (u : Val) → Said s n t → ent 𝓤 (⋆ 𝓤 H A (‵ (Text κ .own t (u ∷ [])) ∷ (‵ (flft κ q) ⊛ ‵ ftrue) ∷ ‵ Own ∷ [])) (Post u)
+  exits : (t : RefT (List ℕ)) (u : Val) → IsRest s n t → ent 𝓤 (⋆ 𝓤 H A (‵ (Lent κ .own t (u ∷ [])) ∷ (‵ (flft κ q) ⊛ ‵ ftrue) ∷ ‵ Own ∷ [])) (Post u)
   exits t u e =
-      qed W (‵ (Text κ .own t (u ∷ [])) ∷ (‵ (flft κ q) ⊛ ‵ ftrue) ∷ ‵ Own ∷ []) ∵
+      qed W (‵ (Lent κ .own t (u ∷ [])) ∷ (‵ (flft κ q) ⊛ ‵ ftrue) ∷ ‵ Own ∷ []) ∵
       suffices ! _ (ends-at 𝓤 H A rest-from.ended stayed (rest-from.clauses 𝓤 H A mem run) W (((κ, tt), (q, tt), tt, (s, (n, tt)), at), tt) u t (tt, (tt, tt)) (tt, (tt, tt))) $ says ! e $
       move ! (1 ∷ []) $ frame ! $ nothing ! $ owned ! usize (Is usize) (uint-makes 𝓤 H A W w64) n _ (refl, ok) $ fjoin ! $ move ! (2 ∷ 0 ∷ []) $ fjoin ! $ frame ! $ done !
 
   module _ (C : Calls 𝓤 H) (Λ : Loops 𝓤 H) (fm : FmC 𝓤 H (W .laws) C) (known-new : Triple 𝓤 (C #reader·Reader·new) (New 𝓤 H A mem run)) (known-moved : Triple 𝓤 (C #reader·Reader·moved) (Moved 𝓤 H A mem run)) (known-rest : Triple 𝓤 (C #reader·Reader·rest) (Rest 𝓤 H A mem run)) where
-    walk : Is (Text κ) s (val s ∷ []) → ent 𝓤 (onEntry 𝓤 H A rest-from.signature (κ, tt) (q, tt) (s, (n, tt)) at) (WpFn 𝓤 H C Λ code.function (val s ∷ vint w64 n ∷ []) Post)
+    walk : Is (Lent κ) s (val s ∷ []) → ent 𝓤 (onEntry 𝓤 H A rest-from.signature (κ, tt) (q, tt) (s, (n, tt)) at) (WpFn 𝓤 H C Λ code.function (val s ∷ vint w64 n ∷ []) Post)
     walk p =
         qed W (raw (onEntry 𝓤 H A rest-from.signature (κ, tt) (q, tt) (s, (n, tt)) at) ∷ []) ∵ enter ! C Λ code.function (val s ∷ vint w64 n ∷ []) _ $
         alloc1 ! (λ l₀. alloc1 ! (λ l₁. alloc1 ! (λ l₂. alloc1 ! (λ l₃. alloc1 ! (λ l₄. alloc0 ! $ params1 ! $ pass1 ! (init ! 6 refl (shr-slice-lawful 𝓤 H A W (named 0) κ u8 .typed s (val s ∷ []) p .0)) $ pass1 ! (init ! 4 refl (tt, record { fits = ok })) $ pass0 ! $
@@ -115,14 +115,14 @@ module _ {M : Type 1} (𝓤 : URA M) (H : Heap 𝓤) (A : Atoms 𝓤) (W : Given
         land ! (from ! (stop !)) (init ! 5 refl (LL.lawful (T.the-type αᵉ) (T′.the-laws αᵉ) 𝓤 H A W .typed r′ _ is′ .0)) $
         use2 W (raw (Rest 𝓤 H A mem run .pre (to-rest r′ u′))) (goes-rest r′ u′) $
         calls-at ! fm (Rest 𝓤 H A mem run) known-rest (to-rest r′ u′) (and-then ! (load ! (from ! (stop !)) (look ! 4 refl)) (no-more !)) (λ u″.
-        use1 W (later (some (λ (t : RefT (List ℕ)). ((‵ (flft κ q) ⊛ ‵ ftrue) ⊛ ‵ (Text κ .own t (u″ ∷ []))) ⊛ raw (ensured 𝓤 H A rest.ended (rest.clauses 𝓤 H A mem run) (κ, tt) (r′, tt) tt t)))) (id⊢ 𝓤 _) $ await ! tt $ pick ! (λ t.
-        split ! $ move ! (1 ∷ []) $ use1 W (raw (fact 𝓤 (Said (r′ .text) (r′ .at) t))) (rest-said r′ t) $ heard ! (Said (r′ .text) (r′ .at) t) (λ e″. split ! $ move ! (1 ∷ []) $
+        use1 W (later (some (λ (t : RefT (List ℕ)). ((‵ (flft κ q) ⊛ ‵ ftrue) ⊛ ‵ (Lent κ .own t (u″ ∷ []))) ⊛ raw (ensured 𝓤 H A rest.ended (rest.clauses 𝓤 H A mem run) (κ, tt) (r′, tt) tt t)))) (id⊢ 𝓤 _) $ await ! tt $ pick ! (λ t.
+        split ! $ move ! (1 ∷ []) $ use1 W (raw (fact 𝓤 (IsRest (r′ .text) (r′ .at) t))) (rest-said r′ t) $ heard ! (IsRest (r′ .text) (r′ .at) t) (λ e″. split ! $ move ! (1 ∷ []) $
         -- [the result; the lifetime's token; what the text owns; _4; …; _3; …; _2; …; _1; …; room for _0; …]
-        peeks ! (Text κ) (Is (Text κ)) (shows 𝓤 H A (Text κ)) t (u″ ∷ []) (λ is″.
+        peeks ! (Lent κ) (Is (Lent κ)) (shows 𝓤 H A (Lent κ)) t (u″ ∷ []) (λ is″.
         land ! (from ! (stop !)) (init ! 11 refl (shr-slice-lawful 𝓤 H A W (named 0) κ u8 .typed t (u″ ∷ []) is″ .0)) $
         returns ! (look ! 11 refl) $ forget ! 3 refl $ forget ! 5 refl $ forget ! 7 refl $ forget ! 9 refl $ forget ! 11 refl $
         move ! (11 ∷ 12 ∷ []) $ free1 ! $ move ! (9 ∷ 10 ∷ []) $ free1 ! $ move ! (7 ∷ 8 ∷ []) $ free1 ! $ move ! (5 ∷ 6 ∷ []) $ free1 ! $ move ! (3 ∷ 4 ∷ []) $ free1 ! $ free0 ! $
-        by ! (exits t u″ (subst (λ (m : ℕ). Said s m t) (e′ .1) (subst (λ (x : RefT (List ℕ)). Said x (r′ .at) t) (e′ .0 ∙ e .0) e″))))))))))))))))))))
+        by ! (exits t u″ (subst (λ (m : ℕ). IsRest s m t) (e′ .1) (subst (λ (x : RefT (List ℕ)). IsRest x (r′ .at) t) (e′ .0 ∙ e .0) e″))))))))))))))))))))
 
 module _ {M : Type 1} (𝓤 : URA M) (H : Heap 𝓤) (A : Atoms 𝓤) (W : Given 𝓤 H A) (mem : Memory → SProp 𝓤) (run : Routine → Fun 𝓤) where
   rest-from-walks : (C : Calls 𝓤 H) (Λ : Loops 𝓤 H) → FmC 𝓤 H (W .laws) C → Triple 𝓤 (C #reader·Reader·new) (New 𝓤 H A mem run) → Triple 𝓤 (C #reader·Reader·moved) (Moved 𝓤 H A mem run) → Triple 𝓤 (C #reader·Reader·rest) (Rest 𝓤 H A mem run)

@@ -41,7 +41,7 @@ use Rattle.grammar.specs.declared.tokens.Met.{Met}
 use Rattle.grammar.proofs.tokens.Met as S
 use Rattle.grammar.proofs.tokens.Met.Laws as S′
 use Rattle.reader.specs.declared.Reader.{Reader}
-use Rattle.reader.proofs.Standing.{B, Text, val, New, Moved, to-new, goes-new, new-said, to-moved, goes-moved, moved-said}
+use Rattle.reader.proofs.Standing.{B, Lent, val, New, Moved, to-new, goes-new, new-said, to-moved, goes-moved, moved-said}
 use Rattle.reader.proofs.Reader as T
 use Rattle.reader.proofs.Reader.Laws as T′
 use Rattle.reader.proofs.Reader.new as new
@@ -81,7 +81,7 @@ module _ {M : Type 1} (𝓤 : URA M) (H : Heap 𝓤) (A : Atoms 𝓤) (W : Given
   Post = walkOf 𝓤 H A token-from.ended stayed (token-from.clauses 𝓤 H A mem run) .post (((κ, tt), (q, tt), tt, (s, (n, tt)), at), tt)
 
   abbrev Own : Fml
-  Own = Text κ .own s (val s ∷ [])
+  Own = Lent κ .own s (val s ∷ [])
 
   -- the call of `token`
   abbrev to-token : Reader → Val → Token 𝓤 H A mem run .Ghost
@@ -100,7 +100,7 @@ module _ {M : Type 1} (𝓤 : URA M) (H : Heap 𝓤) (A : Atoms 𝓤) (W : Given
       move ! (1 ∷ []) $ frame ! $ nothing ! $ owned ! usize (Is usize) (uint-makes 𝓤 H A W w64) n _ (refl, ok) $ fjoin ! $ move ! (2 ∷ 0 ∷ []) $ fjoin ! $ frame ! $ done !
 
   module _ (C : Calls 𝓤 H) (Λ : Loops 𝓤 H) (fm : FmC 𝓤 H (W .laws) C) (known-new : Triple 𝓤 (C #reader·Reader·new) (New 𝓤 H A mem run)) (known-moved : Triple 𝓤 (C #reader·Reader·moved) (Moved 𝓤 H A mem run)) (known-token : Triple 𝓤 (C #reader·Reader·token) (Token 𝓤 H A mem run)) where
-    walk : Is (Text κ) s (val s ∷ []) → ent 𝓤 (onEntry 𝓤 H A token-from.signature (κ, tt) (q, tt) (s, (n, tt)) at) (WpFn 𝓤 H C Λ code.function (val s ∷ vint w64 n ∷ []) Post)
+    walk : Is (Lent κ) s (val s ∷ []) → ent 𝓤 (onEntry 𝓤 H A token-from.signature (κ, tt) (q, tt) (s, (n, tt)) at) (WpFn 𝓤 H C Λ code.function (val s ∷ vint w64 n ∷ []) Post)
     walk p =
         qed W (raw (onEntry 𝓤 H A token-from.signature (κ, tt) (q, tt) (s, (n, tt)) at) ∷ []) ∵ enter ! C Λ code.function (val s ∷ vint w64 n ∷ []) _ $
         alloc1 ! (λ l₀. alloc1 ! (λ l₁. alloc1 ! (λ l₂. alloc1 ! (λ l₃. alloc1 ! (λ l₄. alloc0 ! $ params1 ! $ pass1 ! (init ! 6 refl (shr-slice-lawful 𝓤 H A W (named 0) κ u8 .typed s (val s ∷ []) p .0)) $ pass1 ! (init ! 4 refl (tt, record { fits = ok })) $ pass0 ! $

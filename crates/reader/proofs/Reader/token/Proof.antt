@@ -38,7 +38,7 @@ use denote.Triple.Clauses.{ensured, lasts}
 use Rattle.grammar.specs.Tokens.{tokenAt}
 use Rattle.reader.specs.declared.Reader.{Reader}
 use Rattle.grammar.specs.declared.tokens.Met.{Met}
-use Rattle.reader.proofs.Standing.{B, Text, val, apart}
+use Rattle.reader.proofs.Standing.{B, Lent, val, apart}
 use Rattle.reader.proofs.Reader as T
 use Rattle.reader.proofs.Reader.Laws as T′
 use Rattle.grammar.proofs.tokens.Met as S
@@ -81,7 +81,7 @@ module _ {M : Type 1} (𝓤 : URA M) (H : Heap 𝓤) (A : Atoms 𝓤) (W : Given
   to = (((κ, tt), (q, tt), tt, (d .text, (d .at, tt)), passed), tt)
 
   asked : ent 𝓤 (onEntry 𝓤 H A lexer.signature (κ, tt) (q, tt) (d .text, (d .at, tt)) passed) (TokenAt 𝓤 H A mem run .pre to)
-  asked = qed W ((‵ (flft κ q) ⊛ ‵ ftrue) ∷ ‵ (owns (Text κ ∷ usize ∷ []) (d .text, (d .at, tt)) passed) ∷ []) ∵ join ! $ frame ! $ done !
+  asked = qed W ((‵ (flft κ q) ⊛ ‵ ftrue) ∷ ‵ (owns (Lent κ ∷ usize ∷ []) (d .text, (d .at, tt)) passed) ∷ []) ∵ join ! $ frame ! $ done !
 
   -- of the callee's `ensured`, the clause alone: it has no `&mut`, so what is said of last values is dropped
   said : (r : Met) → ent 𝓤 (ensured 𝓤 H A lexer.ended (lexer.clauses 𝓤 H A mem run) (κ, tt) (d .text, (d .at, tt)) tt r) (fact 𝓤 (r ≡ found))
