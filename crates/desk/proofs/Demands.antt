@@ -15,7 +15,7 @@ use Rattle.tables.proofs.Rules.{kept, passes, passes-zero}
 use Rattle.spelling.specs.Machine.{Outcome, flat}
 use Rattle.notation.specs.declared.reading.Reading.{Reading}
 use Rattle.notation.specs.declared.reading.Reading.the-variants.{Unfit, Over, Accepted}
-use Rattle.notation.specs.Grammar.{Program, Denotes, joined, threads, programLengths}
+use Rattle.grammar.specs.Grammar.{Program, Denotes, joined, threads, programLengths}
 use Rattle.notation.specs.Reading.{mostBytes, Answer, answered, rowNumbers, threadLengths}
 use Rattle.notation.specs.Promise.{Within, RefusedAt}
 use Rattle.notation.proofs.Readings.{denoted-found, Stands, reads, answered-reads, denoted-reads, reads-means}

@@ -14,7 +14,7 @@ use Rattle.tables.specs.declared.verdict.Told.{Told}
 use Rattle.spelling.specs.Machine.{flat, Outcome}
 use Rattle.notation.specs.declared.reading.Reading.{Reading}
 use Rattle.notation.specs.declared.reading.Reading.the-variants.{Unfit, Over, Accepted}
-use Rattle.notation.specs.Grammar.{Command, joined, threads, programRows, programLengths}
+use Rattle.grammar.specs.Grammar.{Command, joined, threads, programRows, programLengths}
 use Rattle.notation.specs.Reading.{rowNumbers, threadLengths, Answer, answered}
 use Rattle.notation.specs.Promise.{Read}
 use Rattle.notation.proofs.Readings.{denoted-found}

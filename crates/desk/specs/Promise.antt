@@ -10,7 +10,7 @@ use Rattle.tables.specs.Verdicts.{tell}
 use Rattle.tables.specs.declared.verdict.Told.{Told}
 use Rattle.spelling.specs.Machine.{flat}
 use Rattle.spelling.specs.Over.{over}
-use Rattle.notation.specs.Grammar.{Program, Denotes, joined, threads, programRows, programLengths}
+use Rattle.grammar.specs.Grammar.{Program, Denotes, joined, threads, programRows, programLengths}
 use Rattle.notation.specs.Reading.{mostBytes}
 use Rattle.notation.specs.Promise.{Within, RefusedAt}
 use Rattle.replay.specs.Schedules.{Agree, Disagree}

@@ -12,15 +12,14 @@ use Rattle.spelling.specs.Bytes.{blanks, skip}
 use Rattle.spelling.specs.Tokens as T
 use Rattle.spelling.specs.Machine.{Outcome, outcome, further, moved, found}
 use Rattle.spelling.proofs.Cuts.{tokens-end, tokens-next, starts-end, starts-next, end-place, next-place}
-use Rattle.notation.specs.declared.tokens.Token.{Token}
-use Rattle.notation.specs.declared.tokens.Met.{Met}
-use Rattle.notation.specs.declared.tokens.Met.the-variants as M
-use Rattle.notation.specs.declared.automaton.State.{State}
-use Rattle.notation.specs.declared.automaton.Moved.{Moved}
-use Rattle.notation.specs.Tokens.{tokenOf, sizeOf, tokenAt}
-use Rattle.notation.specs.Automaton.{stepped, ended, move, next}
+use Rattle.grammar.specs.declared.tokens.Token.{Token}
+use Rattle.grammar.specs.declared.tokens.Met.the-variants as M
+use Rattle.grammar.specs.declared.automaton.State.{State}
+use Rattle.grammar.specs.declared.automaton.Moved.{Moved}
+use Rattle.grammar.specs.Tokens.{tokenOf, sizeOf, tokenAt}
+use Rattle.grammar.specs.Automaton.{stepped, ended, move, next}
 use Rattle.notation.specs.Reading.{judgedBy}
-use Rattle.notation.proofs.Lexes.{pos, most}
+use Rattle.grammar.proofs.Lexes.{pos, most}
 
 -- which of the two stands after the blanks
 end-by : (s : List ℕ) (p from : ℕ) (b : Bool) → eqb (length s) 0 ≡ b → cond b (M.End p) (M.Token (tokenOf s) p (p + sizeOf s)) ≡ M.End from

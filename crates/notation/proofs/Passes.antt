@@ -9,19 +9,19 @@ use native.Mathlib.Numerals.{add-one}
 use native.Mathlib.Omega.{arith}
 use lib.ListN.{length, set}
 use Rattle.tables.specs.Limits.{mostRows, mostThreads}
-use Rattle.spelling.specs.Machine.{Outcome, Row, row, outcome, further, moved, flat}
+use Rattle.spelling.specs.Machine.{Outcome, Row, outcome, moved, flat}
 use Rattle.spelling.specs.Over.{over}
 use Rattle.spelling.proofs.Filling.{Filling, filling-none, filling-left, filling-count, filling-room, filling-long, filling-done, filling-more, filling-three}
-use Rattle.notation.specs.declared.tokens.Token.{Token}
-use Rattle.notation.specs.declared.tokens.Met.the-variants as M
-use Rattle.notation.specs.declared.automaton.State.{State}
-use Rattle.notation.specs.declared.automaton.State.the-variants.{Word, Close, Part}
-use Rattle.notation.specs.declared.automaton.Moved.{Moved}
-use Rattle.notation.specs.declared.automaton.Moved.the-variants as Do
+use Rattle.grammar.specs.declared.tokens.Token.{Token}
+use Rattle.grammar.specs.declared.tokens.Met.the-variants as M
+use Rattle.grammar.specs.declared.automaton.State.{State}
+use Rattle.grammar.specs.declared.automaton.State.the-variants.{Word, Close, Part}
+use Rattle.grammar.specs.declared.automaton.Moved.{Moved}
+use Rattle.grammar.specs.declared.automaton.Moved.the-variants as Do
 use Rattle.notation.specs.declared.scan.Judged.{Judged}
 use Rattle.notation.specs.declared.scan.Judged.the-variants.{Refused, Passed}
-use Rattle.notation.specs.Tokens.{tokenAt}
-use Rattle.notation.specs.Automaton.{stepped, ended, move}
+use Rattle.grammar.specs.Tokens.{tokenAt}
+use Rattle.grammar.specs.Automaton.{stepped, ended, move}
 use Rattle.notation.specs.Reading.{readOf, rowNumbers, threadLengths, judgedBy, judgedOf, Rooms}
 use Rattle.notation.proofs.Along.{startsFrom, foundFrom, met-end, met-token, found-end, found-token, judged-further}
 

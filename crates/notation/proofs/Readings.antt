@@ -15,21 +15,21 @@ use Rattle.spelling.specs.Over.{over}
 use Rattle.spelling.proofs.Cuts.{start-inside}
 use Rattle.spelling.proofs.Spelt.{spelt-tokens}
 use Rattle.spelling.proofs.Refusals as R
-use Rattle.notation.specs.declared.tokens.Token.{Token}
-use Rattle.notation.specs.declared.automaton.State.the-variants.{Word}
+use Rattle.grammar.specs.declared.tokens.Token.{Token}
+use Rattle.grammar.specs.declared.automaton.State.the-variants.{Word}
 use Rattle.notation.specs.declared.scan.Judged.{Judged}
 use Rattle.notation.specs.declared.scan.Judged.the-variants.{Refused, Passed}
 use Rattle.notation.specs.declared.reading.Reading.{Reading}
 use Rattle.notation.specs.declared.reading.Reading.the-variants.{Unfit, Over, Accepted}
-use Rattle.notation.specs.Grammar as G
-use Rattle.notation.specs.Grammar.{Program, Denotes, Spells, rowOf, joined, threads, programRows, programLengths}
-use Rattle.notation.specs.Automaton.{next, ended}
-use Rattle.notation.specs.Reading.{mostBytes, readOf, rowNumbers, threadLengths, judgedBy, judgedOf, answer, answered, tooMany, answerOf, reading, written, Rooms}
-use Rattle.notation.specs.Tokens.{tokens, starts, sizeOf}
+use Rattle.grammar.specs.Grammar as G
+use Rattle.grammar.specs.Grammar.{Program, Denotes, Spells, rowOf, joined, threads, programRows, programLengths}
+use Rattle.grammar.specs.Automaton.{next, ended}
+use Rattle.notation.specs.Reading.{mostBytes, readOf, rowNumbers, threadLengths, judgedBy, judgedOf, answered, tooMany, answerOf, reading, written, Rooms}
+use Rattle.grammar.specs.Tokens.{starts, sizeOf}
 use Rattle.notation.specs.Promise.{Within, Holds, RefusedAt, ByGrammar, Read}
-use Rattle.notation.proofs.Lexes.{pos, most}
-use Rattle.notation.proofs.Programs.{program-found, program-one}
-use Rattle.notation.proofs.Grammars.{lexer, grammar}
+use Rattle.grammar.proofs.Lexes.{pos, most}
+use Rattle.grammar.proofs.Programs.{program-found, program-one}
+use Rattle.grammar.proofs.Grammars.{lexer, grammar}
 use Rattle.notation.proofs.Passes.{flat-long}
 
 -- a text that denotes a program: what is found in it are the program's tables

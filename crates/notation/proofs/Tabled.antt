@@ -12,8 +12,8 @@ use Rattle.tables.specs.Rules.{firstBad, checked}
 use Rattle.tables.specs.declared.verdict.Told.{Told}
 use Rattle.tables.proofs.Rules.{refuses-row, refuses-none}
 use Rattle.spelling.specs.Machine.{flat}
-use Rattle.notation.specs.Grammar as G
-use Rattle.notation.specs.Grammar.{Program, rowOf, joined, threads, programRows, programLengths}
+use Rattle.grammar.specs.Grammar as G
+use Rattle.grammar.specs.Grammar.{Program, rowOf, joined, threads, programRows, programLengths}
 use Rattle.notation.proofs.Passes.{flat-long}
 
 -- the lengths of threads add up to the commands

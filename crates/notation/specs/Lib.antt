@@ -1,9 +1,4 @@
--- Read in this order: Spelling (the words, numbers and marks, and which bytes spell them); Grammar (which tokens write which program, which text denotes it, and its two
--- tables); Tokens (the tokens of any text, and their places); Promise (what a reading promises). The reader's own definitions, which the promise also cites, are Automaton (what a
--- token does) and Reading (what is found, answered and written).
-pub mod Spelling
-pub mod Grammar
-pub mod Tokens
-pub mod Automaton
+-- Read in this order: Promise (what a reading promises, over the grammar's Spelling, Grammar and Tokens); Reading (what is found, answered and written, over the grammar's
+-- Automaton), which the promise also cites.
 pub mod Reading
 pub mod Promise

@@ -10,8 +10,8 @@ use Rattle.spelling.specs.Refusal as R
 use Rattle.spelling.specs.Over.{over}
 use Rattle.notation.specs.declared.reading.Reading.{Reading}
 use Rattle.notation.specs.declared.reading.Reading.the-variants.{Unfit, Over, Accepted}
-use Rattle.notation.specs.Grammar.{Program, Denotes, Spells, Whole, joined, threads, programRows, programLengths}
-use Rattle.notation.specs.Tokens.{tokens, starts}
+use Rattle.grammar.specs.Grammar.{Program, Denotes, Spells, Whole, joined, threads, programRows, programLengths}
+use Rattle.grammar.specs.Tokens.{tokens, starts}
 use Rattle.notation.specs.Reading.{mostBytes, rowNumbers, threadLengths, answered, reading, written}
 
 -- a program within the limits of a reading

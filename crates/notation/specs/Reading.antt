@@ -2,7 +2,7 @@
 use mathlib.Core.Bool.{Bool, cond, _||_}
 use mathlib.Core.List.{List}
 use mathlib.Core.Option.{Option, none, some}
-use Prim.Native.Nat.{ℕ, _+_, _/_, _≤_, min}
+use Prim.Native.Nat.{ℕ, _/_, _≤_, min}
 use lib.Dec.{ltb}
 use lib.ListN.{length, getD, drop}
 use Rattle.tables.specs.Limits.{mostRows, mostThreads}
@@ -10,14 +10,13 @@ use Rattle.tables.specs.Verdicts.{tell}
 use Rattle.tables.specs.declared.verdict.Told.{Told}
 use Rattle.spelling.specs.Machine.{Outcome, found, flat}
 use Rattle.spelling.specs.Over.{over}
-use Rattle.notation.specs.declared.automaton.State.the-variants.{Word}
+use Rattle.grammar.specs.declared.automaton.State.the-variants.{Word}
 use Rattle.notation.specs.declared.scan.Judged.{Judged}
 use Rattle.notation.specs.declared.scan.Judged.the-variants.{Refused, Passed}
 use Rattle.notation.specs.declared.reading.Reading.{Reading}
 use Rattle.notation.specs.declared.reading.Reading.the-variants.{Unfit, Over, Accepted}
-use Rattle.notation.specs.Tokens.{tokens, starts}
-use Rattle.notation.specs.Grammar.{threads}
-use Rattle.notation.specs.Automaton.{next, ended}
+use Rattle.grammar.specs.Tokens.{tokens, starts}
+use Rattle.grammar.specs.Automaton.{next, ended}
 
 -- a text has at most so many bytes
 unfoldable pub mostBytes : ℕ
@@ -82,10 +81,6 @@ restAt (Accepted m t) n = n
 
 abbrev pub restOf : Reading → List ℕ → List ℕ
 restOf r text = drop (restAt r (length text)) text
-
--- n bytes on from a place in memory, which is a block and an offset in it
-abbrev pub ahead : ℕ × ℕ → ℕ → ℕ × ℕ
-ahead x n = (x .0, n + x .1)
 
 -- what the writing pass asks: few rows and threads, and rooms that hold them
 pub record Rooms (text commands lengths : List ℕ) : Type 0 where

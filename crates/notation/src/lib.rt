@@ -1,8 +1,6 @@
 // The written notation: a text read into the two tables of a program.
-mod automaton; // what is expected next, and what a token does
 mod reading; // refusals 12 and 13, the tables, the rest of a text
 mod scan; // the two passes over a text
-mod tokens; // the tokens of a text
 
 pub use reading::Reading;
 pub use reading::Text;

@@ -1,11 +1,13 @@
 // A text read into the two tables: refusals 12 and 13, the tables written, and the rest of a refused text.
 ghost use mathlib.Core.Path.{_≡_};
 ghost use lib.ListN.{length};
-ghost use Rattle.notation.specs.Reading.{answered, tooMany, restAt, restOf, ahead};
+ghost use Rattle.reader.specs.Places.{ahead};
+ghost use Rattle.notation.specs.Reading.{answered, tooMany, restAt, restOf};
 ghost use Rattle.notation.specs.Promise.{Read};
 use crate::scan::Judged;
 use crate::scan::judge;
 use crate::scan::write;
+use reader::rest_from;
 use tables::Table;
 use tables::Told;
 
@@ -78,12 +80,8 @@ pub fn read(text: &[u8], commands: &mut [u32], lengths: &mut [u32]) -> Reading
 pub fn rest(text: &[u8], reading: Reading) -> &[u8]
     ensures { λ s. ⌜ (now s ≡ restOf reading (now (text .entry))) × (s .ptr ≡ ahead (text .entry .ptr) (restAt reading (length (now (text .entry))))) ⌝ }
 {
-    let end = text.len();
-    let Reading::Unfit(place) = reading else {
-        return &text[end..];
-    };
-    if place <= end {
-        return &text[place..];
+    match reading {
+        Reading::Unfit(place) => rest_from(text, place),
+        _ => rest_from(text, text.len()),
     }
-    &text[end..]
 }

@@ -4,12 +4,12 @@ ghost use Prim.Native.Nat.{_+_, _≤_};
 ghost use lib.ListN.{length, set};
 ghost use Rattle.spelling.specs.Over.{over};
 ghost use Rattle.notation.specs.Reading.{judgedOf, rowNumbers, threadLengths, Rooms};
-use crate::automaton::Moved;
-use crate::automaton::State;
-use crate::automaton::ends;
-use crate::automaton::step;
-use crate::tokens::Met;
-use crate::tokens::token_at;
+use grammar::Met;
+use grammar::Moved;
+use grammar::State;
+use grammar::ends;
+use grammar::step;
+use reader::token_from;
 
 // Refused at a place, or of the notation, with so many commands and threads.
 pub(crate) enum Judged {
@@ -26,7 +26,7 @@ pub(crate) fn judge(text: &[u8]) -> Judged
     let mut commands = 0;
     let mut threads = 0;
     loop {
-        match token_at(text, at) {
+        match token_from(text, at) {
             Met::End(end) => {
                 if ends(state) {
                     return Judged::Passed(commands, threads);
@@ -76,7 +76,7 @@ pub(crate) fn write(text: &[u8], commands: &mut [u32], lengths: &mut [u32])
     let mut threads = 0;
     let mut length = 0;
     loop {
-        let Met::Token(token, _, next) = token_at(text, at) else {
+        let Met::Token(token, _, next) = token_from(text, at) else {
             return;
         };
         match step(state, token) {

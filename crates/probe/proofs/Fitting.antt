@@ -15,7 +15,7 @@ use Rattle.tables.specs.Verdicts.{tell, numbered}
 use Rattle.tables.specs.declared.verdict.Told.{Told}
 use Rattle.tables.proofs.Rules.{passes-zero}
 use Rattle.relation.proofs.Truth.{split}
-use Rattle.notation.specs.Grammar.{joined, threads}
+use Rattle.grammar.specs.Grammar.{joined, threads}
 use Rattle.notation.specs.Reading.{mostBytes, answered, restAt}
 use Rattle.notation.specs.Promise.{Read}
 use Rattle.notation.specs.declared.reading.Reading.{Reading}

@@ -20,9 +20,6 @@ abbrev μ-loop : tie.MeasureT-loop
 loop-holds : tie.Need-loop-holds Inv-loop μ-loop
 loop-holds c = writing-start (c .before .before .before .pre)
 
-token-at-requires : tie.Need-token-at-requires Inv-loop μ-loop
-token-at-requires c κs = c .loop .inv .inside
-
 -- the end of the text
 same-length : tie.Need-same-length Inv-loop μ-loop
 same-length c = filling-long (c .before .before .before .loop .inv .rows)
@@ -33,7 +30,7 @@ same-length-2 c = filling-long (c .before .before .before .loop .inv .lens)
 returns : tie.Need-returns Inv-loop μ-loop
 returns c =
     let x = c .before .before in
-    writing-end (x .before .loop .inv) (sym (x .token-at .ensures) ∙ c .enum-told .given .1)
+    writing-end (x .before .loop .inv) (sym (x .token-from .ensures) ∙ c .enum-told .given .1)
 
 -- a token that does not fit: there is none in a text that passed, and the tables would be written all the same
 same-length-3 : tie.Need-same-length-3 Inv-loop μ-loop
@@ -47,7 +44,7 @@ returns-2 c =
     let k = c .before .before in
     let f = k .before .before in
     let x = f .before .before in
-    writing-refused (x .before .loop .inv) (sym (x .token-at .ensures) ∙ f .token .given .1) (sym (k .step .ensures) ∙ c .enum-told2 .given .1)
+    writing-refused (x .before .loop .inv) (sym (x .token-from .ensures) ∙ f .token .given .1) (sym (k .step .ensures) ∙ c .enum-told2 .given .1)
 
 -- a row
 put-row-requires : tie.Need-put-row-requires Inv-loop μ-loop
@@ -55,7 +52,7 @@ put-row-requires c κs =
     let k = c .before .before .before .before in
     let f = k .before .before in
     let x = f .before .before in
-    writing-room (x .before .loop .inv) (sym (x .token-at .ensures) ∙ f .token .given .1) (sym (k .step .ensures) ∙ c .before .before .kind .given .1) .0
+    writing-room (x .before .loop .inv) (sym (x .token-from .ensures) ∙ f .token .given .1) (sym (k .step .ensures) ∙ c .before .before .kind .given .1) .0
 
 add-numbers : tie.Need-add-numbers Inv-loop μ-loop
 unfolding mostRows
@@ -64,7 +61,7 @@ add-numbers c =
     let k = q .before .before in
     let f = k .before .before in
     let x = f .before .before in
-    omega (arith, writing-room (x .before .loop .inv) (sym (x .token-at .ensures) ∙ f .token .given .1) (sym (k .step .ensures) ∙ q .kind .given .1) .1)
+    omega (arith, writing-room (x .before .loop .inv) (sym (x .token-from .ensures) ∙ f .token .given .1) (sym (k .step .ensures) ∙ q .kind .given .1) .1)
 
 add-length : tie.Need-add-length Inv-loop μ-loop
 unfolding mostRows
@@ -73,13 +70,13 @@ add-length c =
     let k = q .before .before in
     let f = k .before .before in
     let x = f .before .before in
-    omega (arith, writing-room (x .before .loop .inv) (sym (x .token-at .ensures) ∙ f .token .given .1) (sym (k .step .ensures) ∙ q .kind .given .1) .2)
+    omega (arith, writing-room (x .before .loop .inv) (sym (x .token-from .ensures) ∙ f .token .given .1) (sym (k .step .ensures) ∙ q .kind .given .1) .2)
 
 loop-less-2 : tie.Need-loop-less-2 Inv-loop μ-loop
 loop-less-2 c =
     let f = c .before .before .before .before .before .before .before .before .before in
     let x = f .before .before in
-    omega (arith, writing-further (x .before .loop .inv) (sym (x .token-at .ensures) ∙ f .token .given .1))
+    omega (arith, writing-further (x .before .loop .inv) (sym (x .token-from .ensures) ∙ f .token .given .1))
 
 loop-again-2 : tie.Need-loop-again-2 Inv-loop μ-loop
 loop-again-2 c =
@@ -88,7 +85,7 @@ loop-again-2 c =
     let f = k .before .before in
     let x = f .before .before in
     rw (c .before .before .put-row .ensures)
-    (writing-row (x .before .loop .inv) (sym (x .token-at .ensures) ∙ f .token .given .1) (sym (k .step .ensures) ∙ q .kind .given .1))
+    (writing-row (x .before .loop .inv) (sym (x .token-from .ensures) ∙ f .token .given .1) (sym (k .step .ensures) ∙ q .kind .given .1))
 
 -- a thread
 mul-lengths : tie.Need-mul-lengths Inv-loop μ-loop
@@ -97,14 +94,14 @@ mul-lengths c =
     let k = c .before .before in
     let f = k .before .before in
     let x = f .before .before in
-    omega (arith, writing-place (x .before .loop .inv) (sym (x .token-at .ensures) ∙ f .token .given .1) (sym (k .step .ensures) ∙ c .enum-told3 .given .1) .1)
+    omega (arith, writing-place (x .before .loop .inv) (sym (x .token-from .ensures) ∙ f .token .given .1) (sym (k .step .ensures) ∙ c .enum-told3 .given .1) .1)
 
 slice-write-lengths : tie.Need-slice-write-lengths Inv-loop μ-loop
 slice-write-lengths c =
     let k = c .before .before in
     let f = k .before .before in
     let x = f .before .before in
-    writing-place (x .before .loop .inv) (sym (x .token-at .ensures) ∙ f .token .given .1) (sym (k .step .ensures) ∙ c .enum-told3 .given .1) .0
+    writing-place (x .before .loop .inv) (sym (x .token-from .ensures) ∙ f .token .given .1) (sym (k .step .ensures) ∙ c .enum-told3 .given .1) .0
 
 add-threads : tie.Need-add-threads Inv-loop μ-loop
 unfolding mostThreads
@@ -112,34 +109,34 @@ add-threads c =
     let k = c .before .before in
     let f = k .before .before in
     let x = f .before .before in
-    omega (arith, writing-place (x .before .loop .inv) (sym (x .token-at .ensures) ∙ f .token .given .1) (sym (k .step .ensures) ∙ c .enum-told3 .given .1) .1)
+    omega (arith, writing-place (x .before .loop .inv) (sym (x .token-from .ensures) ∙ f .token .given .1) (sym (k .step .ensures) ∙ c .enum-told3 .given .1) .1)
 
 loop-less-3 : tie.Need-loop-less-3 Inv-loop μ-loop
 loop-less-3 c =
     let f = c .before .before .before .before in
     let x = f .before .before in
-    omega (arith, writing-further (x .before .loop .inv) (sym (x .token-at .ensures) ∙ f .token .given .1))
+    omega (arith, writing-further (x .before .loop .inv) (sym (x .token-from .ensures) ∙ f .token .given .1))
 
 loop-again-3 : tie.Need-loop-again-3 Inv-loop μ-loop
 loop-again-3 c =
     let k = c .before .before in
     let f = k .before .before in
     let x = f .before .before in
-    writing-thread (x .before .loop .inv) (sym (x .token-at .ensures) ∙ f .token .given .1) (sym (k .step .ensures) ∙ c .enum-told3 .given .1)
+    writing-thread (x .before .loop .inv) (sym (x .token-from .ensures) ∙ f .token .given .1) (sym (k .step .ensures) ∙ c .enum-told3 .given .1)
 
 -- neither
 loop-less : tie.Need-loop-less Inv-loop μ-loop
 loop-less c =
     let f = c .before .before .before .before .before in
     let x = f .before .before in
-    omega (arith, writing-further (x .before .loop .inv) (sym (x .token-at .ensures) ∙ f .token .given .1))
+    omega (arith, writing-further (x .before .loop .inv) (sym (x .token-from .ensures) ∙ f .token .given .1))
 
 loop-again : tie.Need-loop-again Inv-loop μ-loop
 loop-again c =
     let k = c .before .before .before in
     let f = k .before .before in
     let x = f .before .before in
-    writing-on (x .before .loop .inv) (sym (x .token-at .ensures) ∙ f .token .given .1) (sym (k .step .ensures) ∙ c .before .expected .given .1)
+    writing-on (x .before .loop .inv) (sym (x .token-from .ensures) ∙ f .token .given .1) (sym (k .step .ensures) ∙ c .before .expected .given .1)
 
 pub write-spec : {M : Type 1} → statement M
 write-spec =
@@ -148,7 +145,7 @@ write-spec =
     Inv-loop
     μ-loop
     loop-holds
-    token-at-requires
+    (λ c κs. search needs)
     (λ c. search needs)
     (λ c. search needs)
     same-length

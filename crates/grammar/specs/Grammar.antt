@@ -1,0 +1,67 @@
+-- The grammar of the written notation, apart from the reader: which tokens write which table, and which text denotes it.
+use mathlib.Core.Path.{_≡_}
+use mathlib.Core.List.{List, [], _∷_, _++_, map}
+use Prim.Native.Nat.{ℕ}
+use lib.ListN.{length}
+use Rattle.spelling.specs.Machine.{Row, row}
+use Rattle.spelling.specs.Spells as S
+use Rattle.grammar.specs.declared.tokens.Token.{Token}
+use Rattle.grammar.specs.declared.tokens.Token.the-variants.{Access, Signal, Return, Number, Semi, Bars}
+use Rattle.grammar.specs.Spelling.{Spelling, extends}
+
+-- a command: an access of a kind to an address; a signal of a kind to a barrier, with a count
+pub data Command : Type 0 where
+  access : ℕ → ℕ → Command
+  signal : ℕ → ℕ → ℕ → Command
+
+-- `read g;` `write g;` `arrive b n;` `sync b n;`
+abbrev pub commandTokens : Command → List Token
+commandTokens (access k g) = Access k ∷ Number g ∷ Semi ∷ []
+commandTokens (signal k b n) = Signal k ∷ Number b ∷ Number n ∷ Semi ∷ []
+
+-- a thread is any number of commands and then `return`
+unfoldable pub threadTokens : List Command → List Token
+threadTokens [] = Return ∷ []
+threadTokens (c ∷ cs) = commandTokens c ++ threadTokens cs
+
+-- threads are parted by `||`: each but the first stands behind one
+unfoldable pub behind : List (List Command) → List Token
+behind [] = []
+behind (t ∷ ts) = Bars ∷ (threadTokens t ++ behind ts)
+
+-- a program: its first thread, and the others
+pub record Program : Type 0 where
+  pub first : List Command
+  pub others : List (List Command)
+
+abbrev pub programTokens : Program → List Token
+programTokens x = threadTokens (x .first) ++ behind (x .others)
+
+-- the tokens of a program
+abbrev pub Whole : List Token → Type 0
+Whole ts = (x : Program) × (ts ≡ programTokens x)
+
+-- a text denotes a program
+abbrev pub Spells : List ℕ → List Token → Type 0
+Spells = S.Spells Spelling extends
+
+abbrev pub Denotes : List ℕ → Program → Type 0
+Denotes text x = Spells text (programTokens x)
+
+-- the program's two tables: a row a command, in order, and a length a thread
+abbrev pub rowOf : Command → Row
+rowOf (access k g) = row k g 0
+rowOf (signal k b n) = row k b n
+
+unfoldable pub joined : List (List Command) → List Command
+joined [] = []
+joined (t ∷ ts) = t ++ joined ts
+
+abbrev pub threads : Program → List (List Command)
+threads x = x .first ∷ x .others
+
+abbrev pub programRows : Program → List Row
+programRows x = map rowOf (joined (threads x))
+
+abbrev pub programLengths : Program → List ℕ
+programLengths x = map (λ (t : List Command). length t) (threads x)

@@ -1,0 +1,11 @@
+// The tokens of the written notation, which of them write which program, and what a token does.
+mod automaton; // what is expected next, and what a token does
+mod tokens; // the tokens of a text
+
+pub use automaton::Moved;
+pub use automaton::State;
+pub use automaton::ends;
+pub use automaton::step;
+pub use tokens::Met;
+pub use tokens::Token;
+pub use tokens::token_at;
