@@ -16,11 +16,11 @@ use Rattle.relation.proofs.Truth.{clashing, split, isnt, both, pair, either, le
 use Rattle.schedules.specs.Machine.{Program}
 use Rattle.schedules.specs.Order.{Reaches, reach, Reuse, Succeeds}
 use Rattle.schedules.proofs.Table.{decides}
-use Rattle.review.specs.declared.sheet.Pair.{Pair}
+use Rattle.sheet.specs.declared.Pair.{Pair}
 use Rattle.review.specs.declared.faults.Fault.{Fault}
 use Rattle.review.specs.declared.faults.Fault.the-variants as fault
 use Rattle.replay.specs.Program.{program}
-use Rattle.review.specs.Sheet as sheet
+use Rattle.sheet.specs.Sheet as sheet
 use Rattle.review.specs.Faults.{succeeds, reuse, conflict, race, alongRow, allRows, pairOf, faulty, faults}
 
 -- ---- the pairs of one row

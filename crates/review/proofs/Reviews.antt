@@ -17,7 +17,7 @@ use Rattle.tables.specs.declared.verdict.Verdict.{Verdict}
 use Rattle.tables.proofs.Rules.{passes-zero, checked-small}
 use Rattle.relation.specs.Table.{words, related}
 use Rattle.relation.proofs.Truth.{clashing}
-use Rattle.review.specs.declared.sheet.Pair.{Pair}
+use Rattle.sheet.specs.declared.Pair.{Pair}
 use Rattle.replay.specs.declared.offered.Judged.{Judged}
 use Rattle.review.specs.declared.faults.Fault.{Fault}
 use Rattle.review.specs.declared.faults.Fault.the-variants.{Reuse, Race}
@@ -27,7 +27,7 @@ use Rattle.replay.specs.Doors.{Replays}
 use Rattle.replay.specs.Ending.{judged}
 use Rattle.review.specs.Order.{numberAt, put, Reached}
 use Rattle.review.specs.Faults.{faults}
-use Rattle.review.specs.Sheet.{sheetOf}
+use Rattle.sheet.specs.Sheet.{sheetOf}
 use Rattle.review.specs.Judge.{shortRooms, refused, firstPair, faultTold, Filling, generations, reaches, verdictOf, fills}
 use Rattle.review.specs.Agreement.{number, Judges, Reviewed}
 use Rattle.replay.proofs.Refusals.{or-first, or-second}

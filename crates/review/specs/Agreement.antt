@@ -11,7 +11,7 @@ use Rattle.relation.specs.Table.{words}
 use Rattle.review.specs.declared.judge.Finding.{Finding}
 use Rattle.replay.specs.Replay.{played}
 use Rattle.review.specs.Order.{put, Reached}
-use Rattle.review.specs.Sheet.{sheetOf}
+use Rattle.sheet.specs.Sheet.{sheetOf}
 use Rattle.review.specs.Faults.{conflict}
 use Rattle.review.specs.Judge.{refused, verdictOf, faultPairs, generations, reaches, fills}
 use Rattle.replay.specs.Schedules.{Complete, Agree, InOneOrder, Disagree}

@@ -1,17 +1,16 @@
 -- Reuse faults and races, over generations g and a table ρ of what reaches what.
 use mathlib.Core.Bool.{Bool, cond, not, _&&_, _||_}
 use mathlib.Core.List.{List, [], _∷_, _++_}
-use Prim.Native.Nat.{ℕ, zero, suc, _+_, _-_, _*_, _≤_, _<_}
+use Prim.Native.Nat.{ℕ, zero, suc, _+_, _-_, _≤_, _<_}
 use lib.Dec.{eqb, ltb}
 use lib.ListN.{length}
 use Rattle.tables.specs.Rows.{rows, kind, name, write, arrive, threadOf, isFirst}
 use Rattle.tables.specs.Rules.{Keeps}
-use Rattle.review.specs.declared.sheet.Pair.{Pair}
-use Rattle.review.specs.declared.sheet.Sheet.{Sheet}
+use Rattle.sheet.specs.declared.Pair.{Pair}
 use Rattle.review.specs.declared.faults.Fault.{Fault}
 use Rattle.review.specs.declared.faults.Fault.the-variants.{Reuse, Race}
 use Rattle.replay.specs.Step.{registers}
-use Rattle.review.specs.Sheet.{pair, added}
+use Rattle.sheet.specs.Sheet.{pair}
 
 -- Same barrier, c₂ one generation after c₁. Reads and writes belong to no barrier.
 unfoldable pub succeeds : List ℕ → (ℕ → ℕ) → ℕ → ℕ → Bool
@@ -59,11 +58,6 @@ faults commands lengths g ρ f = allRows (faulty commands lengths g ρ f) (pairO
 
 -- ---- what the parts ask for, and leave
 
--- the sheet with a list of pairs more, one after the other
-unfoldable pub addAll : Sheet → List Pair → Sheet
-addAll s [] = s
-addAll s (p ∷ ps) = addAll (added s p) ps
-
 -- rows i and j of tables that pass are there, and their generations
 pub record Looks (commands lengths generations : List ℕ) (i j : ℕ) : Type 0 where
   pub keeps : Keeps commands lengths
@@ -71,9 +65,8 @@ pub record Looks (commands lengths generations : List ℕ) (i j : ℕ) : Type 0 
   pub to : j < rows commands
   pub whole : rows commands ≤ length generations
 
--- i rows have been searched
-pub record Adds (commands lengths generations : List ℕ) (s : Sheet) (i : ℕ) : Type 0 where
+-- row i of tables that pass is there, and all generations
+pub record Searches (commands lengths generations : List ℕ) (i : ℕ) : Type 0 where
   pub keeps : Keeps commands lengths
   pub row : i < rows commands
   pub whole : rows commands ≤ length generations
-  pub few : s .total ≤ i * rows commands

@@ -10,7 +10,7 @@ use Rattle.tables.specs.Verdicts.{tell, numbered}
 use Rattle.tables.specs.declared.verdict.Told.{Told}
 use Rattle.relation.specs.Table.{words, related}
 use Rattle.schedules.specs.Order.{reach}
-use Rattle.review.specs.declared.sheet.Pair.{Pair}
+use Rattle.sheet.specs.declared.Pair.{Pair}
 use Rattle.review.specs.declared.faults.Fault.the-variants.{Reuse, Race}
 use Rattle.review.specs.declared.judge.Finding.{Finding}
 use Rattle.replay.specs.InOrder.{orElse}
@@ -18,7 +18,7 @@ use Rattle.replay.specs.Replay.{played, generation}
 use Rattle.replay.specs.Ending.{judged}
 use Rattle.replay.specs.Program.{program}
 use Rattle.review.specs.Order.{numberAt, put, Reached}
-use Rattle.review.specs.Sheet.{sheetOf}
+use Rattle.sheet.specs.Sheet.{sheetOf}
 use Rattle.review.specs.Faults.{faults}
 
 -- 4: relation room short (0), generation room short (1); the lowest digit if several

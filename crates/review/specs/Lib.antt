@@ -1,7 +1,6 @@
--- The replay is in the crate `replay`. Read here, in this order: Order (happens-before); Sheet; Faults (reuse faults, races, their order); Judge (the
+-- The replay is in the crate `replay`. Read here, in this order: Order (happens-before); Faults (reuse faults, races, their order); Judge (the
 -- verdict); Agreement (the three demands); Examples (document 01's starred ones).
 pub mod Order
-pub mod Sheet
 pub mod Faults
 pub mod Judge
 pub mod Agreement

@@ -6,13 +6,14 @@ ghost use Rattle.tables.specs.Rows.{rows};
 ghost use Rattle.tables.specs.Rules.{Keeps};
 ghost use Rattle.relation.specs.Table.{related};
 ghost use Rattle.review.specs.Order.{numberAt, TwoRows};
-ghost use Rattle.review.specs.Sheet.{sheetOf};
-ghost use Rattle.review.specs.Faults.{succeeds, reuse, conflict, race, faulty, pairOf, alongRow, faults, addAll, Looks, Adds};
+ghost use Rattle.sheet.specs.Sheet.{sheetOf, addAll};
+ghost use Rattle.review.specs.Faults.{succeeds, reuse, conflict, race, faulty, pairOf, alongRow, faults, Looks, Searches};
 use crate::order::is_first;
 use crate::order::same_name;
-use crate::sheet::Pair;
-use crate::sheet::Sheet;
 use relation::related;
+use sheet::Pair;
+use sheet::Sheet;
+use sheet::with_pair;
 use tables::Table;
 use tables::thread_of;
 
@@ -129,7 +130,7 @@ fn search_row(
     relation: &[u32],
     i: usize,
 ) -> Sheet
-    requires { ⌜ Adds (now commands) (now lengths) (now generations) sheet i ⌝ }
+    requires { ⌜ Searches (now commands) (now lengths) (now generations) i ⌝ }
     ensures { λ r. ⌜ r ≡ addAll sheet (alongRow (faulty (now (commands .entry)) (now (lengths .entry)) (numberAt (now (generations .entry))) (related (now (relation .entry)) (rows (now (commands .entry)))) fault i) (pairOf fault i) (rows (now (commands .entry)))) ⌝ }
 {
     let m = commands.len() / 3;
@@ -137,7 +138,7 @@ fn search_row(
     let mut j = 0;
     while j < m {
         if is_fault(fault, commands, lengths, generations, relation, i, j) {
-            found = found.add(pair_of(fault, i, j));
+            found = with_pair(found, pair_of(fault, i, j));
         }
         j += 1;
     }

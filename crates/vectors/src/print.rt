@@ -2,7 +2,7 @@
 ghost use Prim.Native.Nat.{_≤_};
 ghost use lib.ListN.{length};
 use libc::STDOUT_FILENO;
-use review::Sheet;
+use sheet::Sheet;
 use tables::Told;
 use tables::Verdict;
 

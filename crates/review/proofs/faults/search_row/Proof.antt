@@ -6,9 +6,9 @@ use Rattle.tables.specs.Limits.{mostRows}
 use Rattle.tables.specs.Rows.{rows}
 use Rattle.relation.specs.Table.{related}
 use Rattle.review.specs.Order.{numberAt}
-use Rattle.review.specs.Sheet.{added}
-use Rattle.review.specs.Faults.{faulty, pairOf, alongRow, addAll}
-use Rattle.review.proofs.Sheets.{row-none, row-found, row-passed, row-fits}
+use Rattle.sheet.specs.Sheet.{added, addAll}
+use Rattle.review.specs.Faults.{faulty, pairOf, alongRow}
+use Rattle.review.proofs.Searching.{row-none, row-found, row-passed}
 use native.Mathlib.Omega.{arith}
 use borrow.Author.Needs.{needs}
 use Rattle.review.proofs.faults.search_row.Statement.{statement}
@@ -24,11 +24,6 @@ abbrev μ-loop : tie.MeasureT-loop
 
 loop-holds : tie.Need-loop-holds Inv-loop μ-loop
 loop-holds c = (search needs, row-none _ _ _)
-
-add-requires : tie.Need-add-requires Inv-loop μ-loop
-add-requires c κs =
-    let l = c .before .before .before .before .loop in
-    row-fits _ _ (c .before .before .before .before .before .before .before .before .before .pre) (l .inv .0) (l .inv .1) .1
 
 loop-again : tie.Need-loop-again Inv-loop μ-loop
 loop-again c =
@@ -56,7 +51,7 @@ search-row-spec =
     loop-holds
     (λ c κs. search needs)
     (λ c κs. search needs)
-    add-requires
+    (λ c κs. search needs)
     (λ c. search needs)
     (λ c. search needs)
     loop-again

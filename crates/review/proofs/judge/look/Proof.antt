@@ -1,6 +1,6 @@
 -- `look` meets its contract: the search's sheets tell the first pair of each kind. Assumes nothing.
 use borrow.Author.Needs.{needs}
-use Rattle.review.specs.Sheet.{mostKept}
+use Rattle.sheet.specs.Sheet.{mostKept}
 use Rattle.review.proofs.Looks.{looked-reuse, looked-race, looked-none}
 use Rattle.review.proofs.judge.look.Statement.{statement}
 use Rattle.review.proofs.judge.look.Tie as tie

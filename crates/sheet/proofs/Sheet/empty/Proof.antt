@@ -1,8 +1,8 @@
 -- Each place is 0. Assumes nothing.
-use Rattle.review.specs.Sheet.{sheetOf, firsts, mostKept}
+use Rattle.sheet.specs.Sheet.{sheetOf, firsts, mostKept}
 use mathlib.Core.Path.{refl}
-use Rattle.review.proofs.sheet.Sheet.empty.Statement.{statement}
-use Rattle.review.proofs.sheet.Sheet.empty.Tie as tie
+use Rattle.sheet.proofs.Sheet.empty.Statement.{statement}
+use Rattle.sheet.proofs.Sheet.empty.Tie as tie
 
 returns : tie.Need-returns
 unfolding sheetOf firsts mostKept

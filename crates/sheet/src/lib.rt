@@ -1,8 +1,7 @@
 // The fault sheet: the first pairs that are found are kept, and later ones only raise the total.
 ghost use mathlib.Core.Path.{_≡_};
 ghost use mathlib.Core.List.{[]};
-ghost use Prim.Native.Nat.{_+_, _<_, _^_};
-ghost use Rattle.review.specs.Sheet.{sheetOf, added};
+ghost use Rattle.sheet.specs.Sheet.{sheetOf, added};
 
 pub struct Pair {
     pub first: usize,
@@ -31,16 +30,34 @@ impl Sheet {
         }
     }
 
-    // One pair more.
-    pub(crate) fn add(mut self, pair: Pair) -> Self
-        requires { ⌜ self .total + 1 < 2 ^ 64 ⌝ }
+    // One pair more, by value.
+    pub fn add(mut self, pair: Pair) -> Self
         ensures { λ r. ⌜ r ≡ added self pair ⌝ }
     {
         let n = self.total;
-        self.total = n + 1;
+        if n < usize::MAX {
+            self.total = n + 1;
+        }
         if n < Sheet::KEPT {
             self.pairs[n] = pair;
         }
         self
     }
+}
+
+// One pair more, in place.
+pub fn add_to(sheet: &mut Sheet, pair: Pair)
+    ensures { λ _. ⌜ now (sheet .exit) ≡ added (now (sheet .entry)) pair ⌝ }
+{
+    let s = *sheet;
+    *sheet = s.add(pair);
+}
+
+// One pair more for a caller that has the sheet by value: it is lent to `add_to` and comes back.
+pub fn with_pair(sheet: Sheet, pair: Pair) -> Sheet
+    ensures { λ r. ⌜ r ≡ added sheet pair ⌝ }
+{
+    let mut lent = sheet;
+    add_to(&mut lent, pair);
+    lent
 }
