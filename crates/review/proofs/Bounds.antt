@@ -27,16 +27,18 @@ use Rattle.replay.proofs.Places.{Placed, placed, checked-placed, judged-placed,
 use Rattle.replay.specs.Schedules.{Complete}
 use Rattle.sheet.specs.declared.Pair.{Pair}
 use Rattle.sheet.specs.declared.Sheet.{Sheet}
-use Rattle.review.specs.declared.faults.Fault.{Fault}
-use Rattle.review.specs.declared.faults.Fault.the-variants.{Reuse, Race}
-use Rattle.review.specs.declared.judge.Finding.{Finding}
-use Rattle.review.specs.Faults.{pairOf, faults}
+use Rattle.faults.specs.declared.faults.Fault.{Fault}
+use Rattle.faults.specs.declared.faults.Fault.the-variants.{Reuse, Race}
+use Rattle.faults.specs.declared.finding.Finding.{Finding}
+use Rattle.faults.specs.Faults.{pairOf, faults}
 use Rattle.sheet.specs.Sheet.{mostKept, pair, firsts, sheetOf}
-use Rattle.review.specs.Judge.{shortRooms, refused, firstPair, orPairs, faultTold, faultPairs, generations, reaches, verdictOf, fills}
+use Rattle.faults.specs.Findings.{shortRooms, refused, firstPair, orPairs, faultTold, faultPairs}
+use Rattle.review.specs.Judge.{generations, reaches, verdictOf, fills}
 use Rattle.review.specs.Agreement.{number, Reviewed}
-use Rattle.review.proofs.Searching.{faults-few}
-use Rattle.review.proofs.Pairs.{in-order}
-use Rattle.review.proofs.Reviews.{admitted, refused-small, no-fill, fault-small}
+use Rattle.faults.proofs.Refusals.{admitted, refused-small}
+use Rattle.faults.proofs.Searching.{faults-few}
+use Rattle.faults.proofs.Pairs.{in-order}
+use Rattle.review.proofs.Reviews.{no-fill, fault-small}
 
 -- ---- pairs: no number is above the limit of rows
 
