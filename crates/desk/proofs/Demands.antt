@@ -23,7 +23,7 @@ use Rattle.notation.proofs.Tabled.{program-checked}
 use Rattle.replay.specs.Writer.{schedule}
 use Rattle.replay.specs.Schedules.{Complete}
 use Rattle.replay.proofs.Writing.{schedule-complete}
-use Rattle.review.specs.Sheet.{sheetOf}
+use Rattle.sheet.specs.Sheet.{sheetOf}
 use Rattle.review.specs.Judge.{fills}
 use Rattle.review.specs.Agreement.{Judges}
 use Rattle.review.proofs.Judging.{judges}

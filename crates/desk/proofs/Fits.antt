@@ -3,8 +3,8 @@ use mathlib.Core.List.{List, [], _∷_}
 use Prim.Native.Nat.{ℕ, zero, suc, _*_, _≤_, _<_, min}
 use native.Mathlib.Omega.{arith}
 use lib.ListN.{length, getD, take, length-append}
-use Rattle.review.specs.declared.sheet.Pair.{Pair}
-use Rattle.review.specs.Sheet.{mostKept, pair}
+use Rattle.sheet.specs.declared.Pair.{Pair}
+use Rattle.sheet.specs.Sheet.{mostKept, pair}
 use Rattle.desk.specs.declared.conclusion.Conclusion.{Conclusion}
 use Rattle.desk.specs.Report.{leastRoom, twoNumbers, pairLines, report}
 use Rattle.desk.proofs.Numerals.{figures-long}

@@ -17,7 +17,7 @@ use Rattle.notation.proofs.Readings.{Stands, reads-means}
 use Rattle.relation.specs.Table.{words}
 use Rattle.spelling.specs.Over.{over}
 use Rattle.replay.specs.Writer.{schedule}
-use Rattle.review.specs.Sheet.{mostKept, pair, firsts, sheetOf}
+use Rattle.sheet.specs.Sheet.{mostKept, pair, firsts, sheetOf}
 use Rattle.review.specs.Judge.{fills}
 use Rattle.review.proofs.Bounds.{place-small, also-small, number-small, pairs-few, pairs-small}
 use Rattle.desk.specs.declared.conclusion.Conclusion.{Conclusion}

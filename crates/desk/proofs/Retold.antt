@@ -7,8 +7,8 @@ use native.Mathlib.Omega.{arith}
 use lib.ListN.{length, take, length-take}
 use Rattle.tables.specs.Verdicts.{tell}
 use Rattle.tables.specs.declared.verdict.Told.{Told}
-use Rattle.review.specs.declared.sheet.Pair.{Pair}
-use Rattle.review.specs.Sheet.{mostKept, pair, firsts, sheetOf}
+use Rattle.sheet.specs.declared.Pair.{Pair}
+use Rattle.sheet.specs.Sheet.{mostKept, pair, firsts, sheetOf}
 use Rattle.desk.specs.Figures.{figures}
 use Rattle.desk.specs.Report.{space, newline, verdictWord, placeWord, totalWord, twoNumbers, verdictLine, totalLine, pairLines, report}
 use Rattle.desk.specs.Promise.{ToldAgain}

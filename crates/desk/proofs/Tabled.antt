@@ -19,10 +19,10 @@ use Rattle.replay.specs.declared.writer.Written.{Written}
 use Rattle.replay.specs.Doors.{WritesSchedule}
 use Rattle.tables.specs.declared.verdict.Told.{Told}
 use Rattle.replay.specs.Writer.{schedule, unwritten, Filled}
-use Rattle.review.specs.declared.judge.Finding.{Finding}
+use Rattle.faults.specs.declared.finding.Finding.{Finding}
 use Rattle.review.specs.Agreement.{Reviewed}
 use Rattle.review.specs.Judge.{fills}
-use Rattle.review.specs.Sheet.{sheetOf}
+use Rattle.sheet.specs.Sheet.{sheetOf}
 use Rattle.review.proofs.Reviews.{no-fill}
 use Rattle.review.proofs.Bounds.{refused-checked}
 use Rattle.desk.specs.declared.conclusion.Conclusion.{Conclusion}

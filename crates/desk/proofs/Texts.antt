@@ -20,8 +20,8 @@ use Rattle.notation.specs.Promise.{Read}
 use Rattle.notation.proofs.Readings.{denoted-found}
 use Rattle.notation.proofs.Tabled.{program-long}
 use Rattle.notation.proofs.reading.Reading as R
-use Rattle.review.specs.declared.sheet.Sheet.{Sheet}
-use Rattle.review.specs.Sheet.{sheetOf}
+use Rattle.sheet.specs.declared.Sheet.{Sheet}
+use Rattle.sheet.specs.Sheet.{sheetOf}
 use Rattle.desk.specs.declared.conclusion.Conclusion.{Conclusion}
 use Rattle.desk.specs.Conclusion.{ofTables, readAs, ofText, bare}
 

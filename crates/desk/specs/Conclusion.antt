@@ -8,9 +8,10 @@ use Rattle.tables.specs.declared.verdict.Told.{Told}
 use Rattle.relation.specs.Table.{words}
 use Rattle.notation.specs.Reading.{reading, rowNumbers, threadLengths}
 use Rattle.replay.specs.Writer.{schedule}
-use Rattle.review.specs.Sheet.{sheetOf}
-use Rattle.review.specs.Judge.{verdictOf, faultPairs, generations, reaches, fills}
-use Rattle.review.specs.declared.sheet.Pair.{Pair}
+use Rattle.sheet.specs.Sheet.{sheetOf}
+use Rattle.faults.specs.Findings.{faultPairs}
+use Rattle.review.specs.Judge.{verdictOf, generations, reaches, fills}
+use Rattle.sheet.specs.declared.Pair.{Pair}
 use Rattle.desk.specs.declared.conclusion.Conclusion.{Conclusion}
 
 -- a refusal, or a verdict without a fault's pairs: the sheet is empty with total 0

@@ -14,9 +14,9 @@ use Rattle.grammar.specs.Grammar.{Program, Denotes, joined, threads, programRow
 use Rattle.notation.specs.Reading.{mostBytes}
 use Rattle.notation.specs.Promise.{Within, RefusedAt}
 use Rattle.replay.specs.Schedules.{Agree, Disagree}
-use Rattle.review.specs.Sheet.{sheetOf}
+use Rattle.sheet.specs.Sheet.{sheetOf}
 use Rattle.review.specs.Agreement.{SameOrder}
-use Rattle.review.specs.declared.sheet.Pair.{Pair}
+use Rattle.sheet.specs.declared.Pair.{Pair}
 use Rattle.desk.specs.Conclusion.{ofText}
 use Rattle.desk.specs.Report.{leastRoom, report}
 

@@ -4,8 +4,8 @@ ghost use Rattle.desk.specs.Conclusion.{bare, ofTables, ofText};
 use notation::Reading;
 use notation::read;
 use replay::write_schedule;
-use review::Sheet;
 use review::review;
+use sheet::Sheet;
 use tables::Table;
 use tables::Told;
 

@@ -8,7 +8,7 @@ ghost use Rattle.desk.specs.Report.{twoNumbers, verdictLine, totalLine, 
 use crate::conclusion::Conclusion;
 use crate::put::put;
 use crate::put::put_number;
-use review::Sheet;
+use sheet::Sheet;
 use tables::Told;
 
 pub struct Report;

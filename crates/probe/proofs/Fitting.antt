@@ -25,12 +25,12 @@ use Rattle.replay.specs.Doors.{WritesSchedule}
 use Rattle.replay.specs.declared.writer.Written.{Written}
 use Rattle.replay.proofs.Refusals.{or-first, or-either}
 use Rattle.replay.proofs.Places.{Placed, placed, checked-placed, schedule-few}
-use Rattle.review.specs.Sheet.{mostKept, firsts, sheetOf}
+use Rattle.sheet.specs.Sheet.{mostKept, firsts, sheetOf}
 use Rattle.review.specs.Judge.{fills}
 use Rattle.review.specs.Agreement.{Reviewed, number}
-use Rattle.review.specs.declared.sheet.Pair.{Pair}
-use Rattle.review.specs.declared.sheet.Sheet.{Sheet}
-use Rattle.review.specs.declared.judge.Finding.{Finding}
+use Rattle.sheet.specs.declared.Pair.{Pair}
+use Rattle.sheet.specs.declared.Sheet.{Sheet}
+use Rattle.faults.specs.declared.finding.Finding.{Finding}
 use Rattle.probe.specs.Numbers.{Counted, PairsCounted}
 use Rattle.review.proofs.Bounds.{finding-small}
 

@@ -9,8 +9,8 @@ use lib.Seq.{drop-cons, drop-drop, length-take-le}
 use Rattle.tables.specs.declared.verdict.Told.{Told}
 use Rattle.spelling.specs.Over.{over}
 use Rattle.spelling.proofs.Filling.{Filling, filling-none, filling-left, filling-more, filling-done}
-use Rattle.review.specs.declared.sheet.Pair.{Pair}
-use Rattle.review.specs.Sheet.{pair}
+use Rattle.sheet.specs.declared.Pair.{Pair}
+use Rattle.sheet.specs.Sheet.{pair}
 use Rattle.probe.specs.Numbers.{toldNumbers, pairNumbers}
 
 -- ---- the first four places

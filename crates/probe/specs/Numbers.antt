@@ -8,9 +8,9 @@ use Rattle.tables.specs.declared.verdict.Told.{Told}
 use Rattle.notation.specs.Reading.{answered, restAt}
 use Rattle.notation.specs.declared.reading.Reading.{Reading}
 use Rattle.replay.specs.declared.writer.Written.{Written}
-use Rattle.review.specs.Sheet.{mostKept, pair}
-use Rattle.review.specs.declared.sheet.Pair.{Pair}
-use Rattle.review.specs.declared.judge.Finding.{Finding}
+use Rattle.sheet.specs.Sheet.{mostKept, pair}
+use Rattle.sheet.specs.declared.Pair.{Pair}
+use Rattle.faults.specs.declared.finding.Finding.{Finding}
 use Rattle.probe.specs.declared.counts.Counts.{Counts}
 
 -- an answer room has at least so many numbers

@@ -5,7 +5,7 @@ ghost use Prim.Native.Nat.{_≤_, min};
 ghost use lib.ListN.{length, take};
 ghost use Rattle.spelling.specs.Over.{over};
 ghost use Rattle.probe.specs.Numbers.{answerRoom, largest, toldNumbers, pairNumbers, Counted, PairsCounted};
-use review::Sheet;
+use sheet::Sheet;
 use tables::Told;
 
 pub(crate) struct Answer;

@@ -25,18 +25,20 @@ use Rattle.replay.proofs.Refusals.{or-first, or-second, or-either}
 use Rattle.replay.proofs.Judged.{judged-small}
 use Rattle.replay.proofs.Places.{Placed, placed, checked-placed, judged-placed, complete-told}
 use Rattle.replay.specs.Schedules.{Complete}
-use Rattle.review.specs.declared.sheet.Pair.{Pair}
-use Rattle.review.specs.declared.sheet.Sheet.{Sheet}
-use Rattle.review.specs.declared.faults.Fault.{Fault}
-use Rattle.review.specs.declared.faults.Fault.the-variants.{Reuse, Race}
-use Rattle.review.specs.declared.judge.Finding.{Finding}
-use Rattle.review.specs.Faults.{faulty, pairOf, faults}
-use Rattle.review.specs.Sheet.{mostKept, pair, firsts, sheetOf}
-use Rattle.review.specs.Judge.{shortRooms, refused, firstPair, orPairs, faultTold, faultPairs, generations, reaches, verdictOf, fills}
+use Rattle.sheet.specs.declared.Pair.{Pair}
+use Rattle.sheet.specs.declared.Sheet.{Sheet}
+use Rattle.faults.specs.declared.faults.Fault.{Fault}
+use Rattle.faults.specs.declared.faults.Fault.the-variants.{Reuse, Race}
+use Rattle.faults.specs.declared.finding.Finding.{Finding}
+use Rattle.faults.specs.Faults.{pairOf, faults}
+use Rattle.sheet.specs.Sheet.{mostKept, pair, firsts, sheetOf}
+use Rattle.faults.specs.Findings.{shortRooms, refused, firstPair, orPairs, faultTold, faultPairs}
+use Rattle.review.specs.Judge.{generations, reaches, verdictOf, fills}
 use Rattle.review.specs.Agreement.{number, Reviewed}
-use Rattle.review.proofs.Sheets.{all-length}
-use Rattle.review.proofs.Pairs.{in-order}
-use Rattle.review.proofs.Reviews.{admitted, refused-small, no-fill, fault-small}
+use Rattle.faults.proofs.Refusals.{admitted, refused-small}
+use Rattle.faults.proofs.Searching.{faults-few}
+use Rattle.faults.proofs.Pairs.{in-order}
+use Rattle.review.proofs.Reviews.{no-fill, fault-small}
 
 -- ---- pairs: no number is above the limit of rows
 
@@ -83,13 +85,6 @@ module _ {commands lengths : List ℕ} (K : Keeps commands lengths) (g : ℕ →
       let (i, j, li, lj, t, q) = F .only k l in
       let e : getD (faults commands lengths g ρ f) k (pair 0 0) ≡ pairOf f i j = rw q at (F .there i j li lj t .1) in
       subst Low (sym e) (pair-low f i j (omega (arith, K .few-rows)) (omega (arith, K .few-rows)))
-
-  faults-few : (f : Fault) → length (faults commands lengths g ρ f) ≤ mostRows * mostRows
-  unfolding faults
-  faults-few f =
-      let l = all-length (faulty commands lengths g ρ f) (pairOf f) (rows commands) (rows commands) in
-      let m : rows commands * rows commands ≤ mostRows * mostRows = mul-le-mul (K .few-rows) (K .few-rows) in
-      omega arith
 
   fault-placed : Placed (faultTold commands lengths g ρ)
   fault-placed =

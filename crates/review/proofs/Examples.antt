@@ -12,9 +12,10 @@ use Rattle.replay.specs.State.{start}
 use Rattle.replay.specs.Step.{allowed, registering, running, stepped}
 use Rattle.replay.specs.Replay.{playing, played}
 use Rattle.replay.specs.Ending.{ended, judged}
-use Rattle.review.specs.Sheet.{sheetOf}
-use Rattle.review.specs.Faults.{succeeds, reuse, conflict, race, alongRow, allRows, faults}
-use Rattle.review.specs.Judge.{refused, verdictOf}
+use Rattle.sheet.specs.Sheet.{sheetOf}
+use Rattle.faults.specs.Faults.{succeeds, reuse, conflict, race, alongRow, allRows, faults}
+use Rattle.faults.specs.Findings.{refused}
+use Rattle.review.specs.Judge.{verdictOf}
 use Rattle.review.specs.Examples.{examples, all, same, word, below, holds}
 
 pub every : all holds examples ≡ true

@@ -25,24 +25,25 @@ use Rattle.schedules.specs.Order.{Reaches, Reuse, reach}
 use Rattle.schedules.specs.Claims as claims
 use Rattle.schedules.proofs.Tests.{not-matching}
 use Rattle.schedules.proofs.Theorems.{agreement, one-order, real, decided}
-use Rattle.review.specs.declared.sheet.Pair.{Pair}
-use Rattle.review.specs.declared.faults.Fault.the-variants as fault
+use Rattle.sheet.specs.declared.Pair.{Pair}
+use Rattle.faults.specs.declared.faults.Fault.the-variants as fault
 use Rattle.replay.specs.Step.{allowed}
 use Rattle.replay.specs.Ending.{isBlocked, barrierSet, lowestAllowed, lowestBlocked, lowestSet, lastRun, ended, judged}
 use Rattle.replay.specs.InOrder.{orElse}
 use Rattle.replay.specs.Replay.{played}
 use Rattle.replay.specs.Program.{program}
-use Rattle.review.specs.Faults.{conflict, race, faults}
-use Rattle.review.specs.Judge.{firstPair, faultTold, generations, reaches}
+use Rattle.faults.specs.Faults.{conflict, race, faults}
+use Rattle.faults.specs.Findings.{firstPair, faultTold}
+use Rattle.review.specs.Judge.{generations, reaches}
 use Rattle.replay.specs.Schedules.{stateAfter, Stops, Complete, stopped, mismatched, Clean, Agree, Disagree, unclean}
 use Rattle.replay.specs.Schedules as schedules
-use Rattle.review.specs.Agreement.{SameOrder, Judges}
+use Rattle.review.specs.Agreement.{Judges}
 use Rattle.replay.proofs.Programs as programs
 use Rattle.replay.proofs.Plays.{Ends, through, refused-at, mismatched-at, Through, plays-all, clean-through, legal-through}
 use Rattle.replay.proofs.Schedules.{unlike, complete-from, clean-to, generation-is}
 use Rattle.replay.proofs.Agreements.{reuse-same, reaches-same, agree-from, disagreed, order-to, order-from}
-use Rattle.review.proofs.Pairs.{reuse-is, race-is, no-faults, some-fault}
-use Rattle.review.proofs.Conflicts.{accesses, reaches-either}
+use Rattle.faults.proofs.Pairs.{reuse-is, race-is, no-faults, some-fault}
+use Rattle.faults.proofs.Conflicts.{accesses, reaches-either}
 
 module _ {table lengths : List ℕ} (K : Keeps table lengths) (σ : List ℕ) where
   abbrev P : Program

@@ -1,11 +1,6 @@
--- Laws, by subject, in an order that can be read: Refusals (1 to 4), Rooms (what goes into the two rooms), Sheets, Looks (what a search tells), Pairs (which
--- pairs, in what order), Conflicts, Judging (demand 3), Reviews (the contract), Unique (it has one answer), Bounds (how large its numbers are). By itself: Examples (document 01's starred ones).
-pub mod Refusals
+-- Laws, by subject, in an order that can be read: Rooms (what goes into the generation room), Judging (demand 3), Reviews (the contract), Unique (it has one
+-- answer), Bounds (how large its numbers are). By itself: Examples (document 01's starred ones).
 pub mod Rooms
-pub mod Sheets
-pub mod Looks
-pub mod Pairs
-pub mod Conflicts
 pub mod Judging
 pub mod Reviews
 pub mod Unique

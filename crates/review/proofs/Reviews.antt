@@ -1,78 +1,40 @@
 -- The contract of `review` from what its parts found: refused, judged, or filled. Assumes nothing.
 use mathlib.Core.Path.{_≡_, refl, sym, ap, _∙_, subst}
-use mathlib.Core.Logic.{by-cases, _≢_}
-use mathlib.Core.Bool.{Bool, true, false, cond}
+use mathlib.Core.Logic.{_≢_}
+use mathlib.Core.Bool.{true, false}
 use mathlib.Core.List.{List, [], _∷_}
 use Prim.Native.Nat.{ℕ, _≤_, _<_}
 use native.Mathlib.Omega.{arith}
-use native.Mathlib.Decide.{ℕ-discrete}
-use lib.Dec.{ltb}
 use lib.ListN.{length, getD}
-use borrow.Author.Tests.{eq-eqb, ne-eqb, ltb-false}
+use borrow.Author.Tests.{eq-eqb, ne-eqb}
 use Rattle.tables.specs.Rows.{rows}
-use Rattle.tables.specs.Rules.{Keeps, checked}
+use Rattle.tables.specs.Rules.{checked}
 use Rattle.tables.specs.Verdicts.{tell, numbered}
 use Rattle.tables.specs.declared.verdict.Told.{Told}
 use Rattle.tables.specs.declared.verdict.Verdict.{Verdict}
-use Rattle.tables.proofs.Rules.{passes-zero, checked-small}
-use Rattle.relation.specs.Table.{words, related}
 use Rattle.relation.proofs.Truth.{clashing}
-use Rattle.review.specs.declared.sheet.Pair.{Pair}
+use Rattle.sheet.specs.declared.Pair.{Pair}
 use Rattle.replay.specs.declared.offered.Judged.{Judged}
-use Rattle.review.specs.declared.faults.Fault.{Fault}
-use Rattle.review.specs.declared.faults.Fault.the-variants.{Reuse, Race}
-use Rattle.review.specs.declared.judge.Finding.{Finding}
+use Rattle.faults.specs.declared.faults.Fault.{Fault}
+use Rattle.faults.specs.declared.faults.Fault.the-variants.{Reuse, Race}
+use Rattle.faults.specs.declared.finding.Finding.{Finding}
 use Rattle.replay.specs.Replay.{played}
 use Rattle.replay.specs.Doors.{Replays}
 use Rattle.replay.specs.Ending.{judged}
-use Rattle.review.specs.Order.{numberAt, put, Reached}
-use Rattle.review.specs.Faults.{faults}
-use Rattle.review.specs.Sheet.{sheetOf}
-use Rattle.review.specs.Judge.{shortRooms, refused, firstPair, faultTold, Filling, generations, reaches, verdictOf, fills}
+use Rattle.faults.specs.Order.{numberAt, Reached}
+use Rattle.faults.specs.Faults.{faults}
+use Rattle.sheet.specs.Sheet.{sheetOf}
+use Rattle.faults.specs.Findings.{refused, firstPair, faultTold, reaching, Finds}
+use Rattle.review.specs.Judge.{put, generations, reaches, verdictOf, fills}
 use Rattle.review.specs.Agreement.{number, Judges, Reviewed}
 use Rattle.replay.proofs.Refusals.{or-first, or-second}
 use Rattle.replay.proofs.Plays.{Through, clean-through}
 use Rattle.replay.proofs.Judged.{judged-small, clean-verdict}
-use Rattle.review.proofs.Rooms.{put-front, put-beyond, same-reached, related-reaches}
-use Rattle.review.proofs.Pairs.{same-faults}
+use Rattle.review.proofs.Rooms.{put-front, put-beyond}
+use Rattle.faults.proofs.Refusals.{Admitted, refused-small, admitted}
+use Rattle.faults.proofs.Drawing.{same-reached, reach-same}
+use Rattle.faults.proofs.Pairs.{same-faults}
 use Rattle.review.proofs.Judging.{told, judges}
-
--- ---- refusals 1 to 4
-
--- tables and rooms that pass them
-pub record Admitted (commands lengths : List ℕ) (relation generations : ℕ) : Type 0 where
-  pub checks : checked commands lengths .number ≡ 0
-  pub keeps : Keeps commands lengths
-  pub relation-fits : words (rows commands) ≤ relation
-  pub generations-fit : rows commands ≤ generations
-
-module _ (commands lengths : List ℕ) (relation generations : ℕ) where
-  small-rooms : (a b : Bool) → cond a (tell 4 0 0) (cond b (tell 4 1 0) (tell 0 0 0)) .number ≤ 4
-  small-rooms true b = omega arith
-  small-rooms false true = omega arith
-  small-rooms false false = omega arith
-
-  pub refused-small : refused commands lengths relation generations .number ≤ 4
-  unfolding refused
-  refused-small =
-      by-cases (ℕ-discrete (checked commands lengths .number) 0)
-      (λ (e : checked commands lengths .number ≡ 0). rw (eq-eqb _ _ e) (small-rooms (ltb relation (words (rows commands))) (ltb generations (rows commands))))
-      (λ (n : checked commands lengths .number ≢ 0). rw (ne-eqb _ _ n) (omega (arith, checked-small commands lengths)))
-
-  big-rooms : (a b : Bool) → cond a (tell 4 0 0) (cond b (tell 4 1 0) (tell 0 0 0)) .number ≡ 0 → (a ≡ false) × (b ≡ false)
-  big-rooms true b e = absurd (omega arith)
-  big-rooms false true e = absurd (omega arith)
-  big-rooms false false e = (refl, refl)
-
-  pub admitted : refused commands lengths relation generations .number ≡ 0 → Admitted commands lengths relation generations
-  unfolding refused
-  admitted e =
-      by-cases (ℕ-discrete (checked commands lengths .number) 0)
-      (λ (z : checked commands lengths .number ≡ 0).
-      let q : shortRooms (rows commands) relation generations .number ≡ 0 = rw (eq-eqb _ _ z) at e in
-      let (a, b) = big-rooms (ltb relation (words (rows commands))) (ltb generations (rows commands)) q in
-      record { checks = z; keeps = passes-zero commands lengths z; relation-fits = ltb-false _ _ a; generations-fit = ltb-false _ _ b })
-      (λ (n : checked commands lengths .number ≢ 0). absurd (n (rw (ne-eqb _ _ n) at e)))
 
 -- ---- which verdicts fill the rooms
 
@@ -152,12 +114,13 @@ module _ (commands lengths σ relation room : List ℕ) where
           (omega (arith, ap (λ (t : Told). t .number) e, judged-small (A .keeps) σ))
 
       -- 0, 10 and 11
-      module _ (zero : numbered (j .verdict) .number ≡ 0) {r : Finding} {relation′ room′ : List ℕ} (F : Filling commands lengths (j .generations) relation room r relation′ room′) where
+      module _ (zero : numbered (j .verdict) .number ≡ 0) {r : Finding} {relation′ room′ : List ℕ} (put-in : room′ ≡ put (j .generations) (rows commands) room)
+          (long : length room′ ≡ length room) (F : Finds commands lengths room′ relation r relation′) where
         clean : judged lengths (played commands lengths σ) .number ≡ 0
         clean = ap (λ (t : Told). t .number) (sym told-judged) ∙ zero
 
         is-put : room′ ≡ put (played commands lengths σ .generations) (rows commands) room
-        is-put = F .put-in ∙ ap (λ (g : List ℕ). put g (rows commands) room) (J .generations ∙ rw (eq-eqb (checked commands lengths .number) 0 (A .checks)))
+        is-put = put-in ∙ ap (λ (g : List ℕ). put g (rows commands) room) (J .generations ∙ rw (eq-eqb (checked commands lengths .number) 0 (A .checks)))
 
         T : Through (A .keeps) σ
         T = clean-through (A .keeps) σ (clean-verdict lengths (played commands lengths σ) clean)
@@ -171,16 +134,20 @@ module _ (commands lengths σ relation room : List ℕ) where
         same : (c : ℕ) → c < rows commands → numberAt room′ c ≡ g c
         same c l = ap (λ (r : List ℕ). getD r c 0) is-put ∙ put-front (played commands lengths σ .generations) room (rows commands) fits c l
 
-        reached : Reached commands lengths g relation relation′
-        reached = same-reached commands lengths (numberAt room′) g same relation relation′ (F .reached)
+        again : refused commands lengths (length relation) (length room′) .number ≡ 0
+        again = rw long pass
 
-        found : (f : Fault) → faults commands lengths (numberAt room′) (related relation′ (rows commands)) f ≡ faults commands lengths g (reaches commands lengths σ) f
-        found = same-faults commands lengths (numberAt room′) g _ _ same (related-reaches commands lengths g relation relation′ reached (A .relation-fits))
+        reached : Reached commands lengths g relation relation′
+        reached = same-reached commands lengths (numberAt room′) g same relation relation′ (F .holds again)
+
+        found : (f : Fault) → faults commands lengths (numberAt room′) (reaching commands lengths room′) f ≡ faults commands lengths g (reaches commands lengths σ) f
+        found = same-faults commands lengths (numberAt room′) g _ _ same (reach-same commands lengths (numberAt room′) g same)
 
         pub reviewed-filled : Reviewed commands lengths σ relation room r relation′ room′
         unfolding verdictOf
         reviewed-filled =
-            let e : numbered (r .verdict) ≡ faultTold commands lengths g (reaches commands lengths σ) = F .looked .verdict ∙ rw (found Reuse, found Race) in
+            let d : numbered (r .verdict) ≡ faultTold commands lengths (numberAt room′) (reaching commands lengths room′) = F .verdict ∙ sym (or-second _ _ again) in
+            let e : numbered (r .verdict) ≡ faultTold commands lengths g (reaches commands lengths σ) = d ∙ rw (found Reuse, found Race) in
             let q : numbered (r .verdict) ≡ verdicts = e ∙ or-second (judged lengths (played commands lengths σ)) _ clean ∙ or-second refusal _ pass in
             let n : number r ≡ faultTold commands lengths g (reaches commands lengths σ) .number = ap (λ (t : Told). t .number) e in
             let f : fills (number r) ≡ true = ap fills n ∙ fault-fills (faults commands lengths g (reaches commands lengths σ) Reuse) (faults commands lengths g (reaches commands lengths σ) Race) in
@@ -191,10 +158,10 @@ module _ (commands lengths σ relation room : List ℕ) where
                     empty = λ z. clashing f z;
                     relation-kept = λ z. clashing f z;
                     room-kept = λ z. clashing f z;
-                    relation-beyond = F .reached .kept;
+                    relation-beyond = reached .kept;
                     room-beyond = λ p h. ap (λ (r : List ℕ). getD r p 0) is-put ∙ put-beyond (played commands lengths σ .generations) room (rows commands) fits p h;
                   };
               demand₂ =
-                  record { verdict = q; sheet = λ _. F .looked .sheet ∙ rw (found Reuse, found Race); relation-holds = λ _. reached; room-holds = λ _. is-put };
+                  record { verdict = q; sheet = λ _. F .sheet ∙ rw (eq-eqb _ 0 again, found Reuse, found Race); relation-holds = λ _. reached; room-holds = λ _. is-put };
               demand₃ = third (r .verdict) q;
             }

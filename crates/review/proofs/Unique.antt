@@ -9,8 +9,8 @@ use Rattle.tables.specs.declared.verdict.Verdict.{Verdict}
 use Rattle.tables.proofs.Verdicts.{numbered-one}
 use Rattle.relation.proofs.Truth.{split}
 use Rattle.relation.proofs.Rooms.{Words, holds-one}
-use Rattle.review.specs.declared.sheet.Sheet.{Sheet}
-use Rattle.review.specs.declared.judge.Finding.{Finding}
+use Rattle.sheet.specs.declared.Sheet.{Sheet}
+use Rattle.faults.specs.declared.finding.Finding.{Finding}
 use Rattle.review.specs.Judge.{fills}
 use Rattle.review.specs.Agreement.{number, Reviewed}
 

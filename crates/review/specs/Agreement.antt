@@ -8,12 +8,13 @@ use lib.ListN.{length, getD}
 use Rattle.tables.specs.Rows.{rows}
 use Rattle.tables.specs.Verdicts.{tell, numbered}
 use Rattle.relation.specs.Table.{words}
-use Rattle.review.specs.declared.judge.Finding.{Finding}
+use Rattle.faults.specs.declared.finding.Finding.{Finding}
 use Rattle.replay.specs.Replay.{played}
-use Rattle.review.specs.Order.{put, Reached}
-use Rattle.review.specs.Sheet.{sheetOf}
-use Rattle.review.specs.Faults.{conflict}
-use Rattle.review.specs.Judge.{refused, verdictOf, faultPairs, generations, reaches, fills}
+use Rattle.faults.specs.Order.{Reached}
+use Rattle.sheet.specs.Sheet.{sheetOf}
+use Rattle.faults.specs.Faults.{conflict}
+use Rattle.faults.specs.Findings.{refused, faultPairs}
+use Rattle.review.specs.Judge.{put, verdictOf, generations, reaches, fills}
 use Rattle.replay.specs.Schedules.{Complete, Agree, InOneOrder, Disagree}
 
 -- the number of a review's verdict

@@ -9,10 +9,11 @@ use Rattle.tables.specs.Verdicts.{tell}
 use Rattle.tables.specs.declared.verdict.Told.{Told}
 use Rattle.relation.specs.Table.{words}
 use Rattle.schedules.specs.Tally.{bit}
-use Rattle.review.specs.declared.sheet.Pair.{Pair}
+use Rattle.sheet.specs.declared.Pair.{Pair}
 use Rattle.replay.specs.Replay.{played}
-use Rattle.review.specs.Sheet.{pair, sheetOf}
-use Rattle.review.specs.Judge.{verdictOf, faultPairs, generations, reaches, fills}
+use Rattle.sheet.specs.Sheet.{pair, sheetOf}
+use Rattle.faults.specs.Findings.{faultPairs}
+use Rattle.review.specs.Judge.{verdictOf, generations, reaches, fills}
 
 -- ---- the table
 

@@ -1,8 +1,5 @@
--- The replay is in the crate `replay`. Read here, in this order: Order (happens-before); Sheet; Faults (reuse faults, races, their order); Judge (the
--- verdict); Agreement (the three demands); Examples (document 01's starred ones).
-pub mod Order
-pub mod Sheet
-pub mod Faults
+-- The replay is in the crate `replay`, the faults are in `faults`. Read here, in this order: Judge (the verdict); Agreement (the three demands); Examples
+-- (document 01's starred ones).
 pub mod Judge
 pub mod Agreement
 pub mod Examples

@@ -1,99 +1,11 @@
 // The review: the refusals, the replay, the rooms and the verdict.
-ghost use mathlib.Core.Path.{_≡_};
-ghost use mathlib.Core.List.{[]};
-ghost use lib.ListN.{length};
-ghost use Prim.Native.Nat.{_≤_};
-ghost use Rattle.tables.specs.Rows.{rows};
-ghost use Rattle.tables.specs.Rules.{Keeps};
-ghost use Rattle.tables.specs.Verdicts.{numbered};
-ghost use Rattle.relation.specs.Table.{related};
-ghost use Rattle.review.specs.Sheet.{sheetOf};
-ghost use Rattle.review.specs.Order.{numberAt, Roomy};
-ghost use Rattle.review.specs.Judge.{refused, Looked, Filling};
 ghost use Rattle.review.specs.Agreement.{Reviewed};
-use crate::faults::Fault;
-use crate::faults::search;
-use crate::order::put_generations;
-use crate::order::put_order;
-use crate::sheet::Sheet;
-use relation::table_words;
+use crate::generations::put_generations;
+use faults::Finding;
+use faults::bare;
+use faults::find_faults;
+use faults::refuse;
 use replay::judge;
-use tables::Table;
-use tables::Verdict;
-use tables::check_tables;
-
-pub struct Finding {
-    pub verdict: Verdict,
-    pub sheet: Sheet,
-}
-
-// A verdict without a fault's pairs.
-fn bare(verdict: Verdict) -> Finding
-    ensures { λ r. ⌜ r ≡ record { verdict = verdict; sheet = sheetOf [] } ⌝ }
-{
-    Finding {
-        verdict,
-        sheet: Sheet::empty(),
-    }
-}
-
-// 1 to 4, or 0.
-fn refuse(commands: &[u32], lengths: &[u32], relation: usize, generations: usize) -> Verdict
-    ensures { λ r. ⌜ numbered r ≡ refused (now (commands .entry)) (now (lengths .entry)) relation generations ⌝ }
-{
-    let verdict = check_tables(commands, lengths);
-    if verdict.number().number != 0 {
-        return verdict;
-    }
-    let m = commands.len() / 3;
-    if relation < table_words(m as u32) {
-        return Verdict::ShortRoom(0);
-    }
-    if generations < m {
-        return Verdict::ShortRoom(1);
-    }
-    Verdict::Clean
-}
-
-// 10, 11 or 0, with the sheet. Races are looked for only when there is no reuse fault.
-fn look(commands: &[u32], lengths: &[u32], generations: &[u32], relation: &[u32]) -> Finding
-    requires { ⌜ Keeps (now commands) (now lengths) × (rows (now commands) ≤ length (now generations)) ⌝ }
-    ensures { λ r. ⌜ Looked (now (commands .entry)) (now (lengths .entry)) (numberAt (now (generations .entry))) (related (now (relation .entry)) (rows (now (commands .entry)))) r ⌝ }
-{
-    let reuses = search(Fault::Reuse, commands, lengths, generations, relation);
-    if reuses.total != 0 {
-        let pair = reuses.pairs[0];
-        return Finding {
-            verdict: Verdict::Reuse(pair.first, pair.second),
-            sheet: reuses,
-        };
-    }
-    let races = search(Fault::Race, commands, lengths, generations, relation);
-    if races.total != 0 {
-        let pair = races.pairs[0];
-        return Finding {
-            verdict: Verdict::Race(pair.first, pair.second),
-            sheet: races,
-        };
-    }
-    bare(Verdict::Clean)
-}
-
-// The generations that a clean replay found, and happens-before over them, into the rooms; and what these tell.
-fn fill(
-    commands: &[u32],
-    lengths: &[u32],
-    found: [u32; Table::ROWS],
-    relation: &mut [u32],
-    generations: &mut [u32],
-) -> Finding
-    requires { ⌜ Roomy (now commands) (now lengths) (now generations) (now relation) ⌝ }
-    ensures { λ r. ⌜ Filling (now (commands .entry)) (now (lengths .entry)) found (now (relation .entry)) (now (generations .entry)) r (now (relation .exit)) (now (generations .exit)) ⌝ }
-{
-    put_generations(generations, found, commands.len() / 3);
-    put_order(commands, lengths, generations, relation);
-    look(commands, lengths, generations, relation)
-}
 
 // Any tables, any schedule, any rooms. The verdict up to 9 is found before a room is touched; only for 0, 10 and 11 are they filled.
 pub fn review(
@@ -115,5 +27,6 @@ pub fn review(
         return bare(verdict);
     }
     let found = judged.generations;
-    fill(commands, lengths, found, relation, generations)
+    put_generations(generations, found, commands.len() / 3);
+    find_faults(commands, lengths, generations, relation)
 }

@@ -1,10 +1,5 @@
 // The review of a program's tables and an offered schedule.
-mod faults; // the reuse and race tests, and the one ordered search for both
-mod judge; // the refusals, the rooms and the verdict
-mod order; // generations into their room, happens-before into its room
-mod sheet; // the fault sheet
+mod generations; // generations into their room
+mod judge; // the review itself
 
-pub use judge::Finding;
 pub use judge::review;
-pub use sheet::Pair;
-pub use sheet::Sheet;

@@ -4,7 +4,7 @@ use Prim.Native.Nat.{_-_, _≤_, min}
 use native.Mathlib.Omega.{arith}
 use lib.ListN.{length, take, length-map}
 use borrow.Author.Needs.{needs}
-use Rattle.review.specs.Sheet.{mostKept, pair}
+use Rattle.sheet.specs.Sheet.{mostKept, pair}
 use Rattle.desk.specs.Putting.{PutsBytes}
 use Rattle.desk.specs.Report.{pairLines}
 use Rattle.desk.proofs.Placing.{puts-none, puts-on, puts-long}

@@ -3,7 +3,7 @@ use mathlib.Core.Path.{_≡_, refl}
 use Prim.Native.Nat.{_≤_, _-_}
 use native.Mathlib.Omega.{arith}
 use lib.ListN.{length, length-set}
-use Rattle.review.specs.Sheet.{mostKept}
+use Rattle.sheet.specs.Sheet.{mostKept}
 use Rattle.probe.specs.Numbers.{answerRoom}
 use Rattle.probe.proofs.Putting.{Putting, putting-none, putting-more, putting-done}
 use borrow.Author.Needs.{needs}

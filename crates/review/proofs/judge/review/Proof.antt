@@ -1,8 +1,9 @@
--- `review` meets its contract: refused and judged before a room is touched, or filled. Assumes nothing.
+-- `review` meets its contract: refused and judged before a room is touched; or the generations are put, and faults are looked for over them. Assumes nothing.
 use mathlib.Core.Path.{sym, _∙_}
 use borrow.Author.Needs.{needs}
 use Rattle.replay.proofs.Refusals.{number-is, said-zero}
-use Rattle.review.proofs.Reviews.{admitted, reviewed-refused, reviewed-judged, reviewed-filled}
+use Rattle.faults.proofs.Refusals.{admitted}
+use Rattle.review.proofs.Reviews.{reviewed-refused, reviewed-judged, reviewed-filled}
 use Rattle.review.proofs.judge.review.Statement.{statement}
 use Rattle.review.proofs.judge.review.Tie as tie
 
@@ -23,24 +24,25 @@ returns-2 c =
     (reviewed-judged _ _ _ _ _ (said-zero (k .result) (n .number .ensures) (k .ensures) (i .if1 .left)) (j .ensures)
     (λ e. c .before .if2 .taken (number-is (j .result .verdict) (m .number2 .ensures) ∙ e)))
 
-fill-requires : tie.Need-fill-requires
-fill-requires c κs =
-    let i = c .before .before .before .before .before .before .before in
+put-generations-requires : tie.Need-put-generations-requires
+put-generations-requires c κs =
+    let i = c .before .before .before .before .before .before in
     let n = i .before .before in
     let k = n .before .refuse in
     let A = admitted _ _ _ _ (said-zero (k .result) (n .number .ensures) (k .ensures) (i .if1 .left)) in
-    record { keeps = A .keeps; generations-fit = A .generations-fit; relation-fits = A .relation-fits }
+    (A .generations-fit, A .keeps .few-rows)
 
 returns-3 : tie.Need-returns-3
 returns-3 c =
-    let f = c .before .before .before .before in
-    let m = f .before .before .before .before .before .before in
+    let p = c .before .before .before .before .before .before .before in
+    let m = p .before .before .before .before .before in
     let j = m .before .judge in
     let i = m .before .before in
     let n = i .before .before in
     let k = n .before .refuse in
     reviewed-filled _ _ _ _ _ (said-zero (k .result) (n .number .ensures) (k .ensures) (i .if1 .left)) (j .ensures)
-    (sym (number-is (j .result .verdict) (m .number2 .ensures)) ∙ f .before .before .before .before .if2 .left) (f .fill .ensures)
+    (sym (number-is (j .result .verdict) (m .number2 .ensures)) ∙ p .before .before .before .if2 .left) (p .put-generations .ensures) (p .put-generations .kept .0)
+    (c .before .before .find-faults .ensures)
 
 pub review-spec : {M : Type 1} → statement M
 review-spec =
@@ -54,7 +56,8 @@ review-spec =
     (λ c κs. search needs)
     (λ c κs. search needs)
     returns-2
-    fill-requires
+    put-generations-requires
+    (λ c κs. search needs)
     (λ c. search needs)
     (λ c. search needs)
     returns-3)

@@ -1,0 +1,57 @@
+-- The tests, one after the other. Assumes nothing.
+use mathlib.Core.Path.{sym, _∙_}
+use borrow.Author.Tests.{lt-ltb, le-ltb, eq-eqb, ne-eqb, not-true, not-false}
+use Rattle.tables.specs.Limits.{mostRows}
+use Rattle.faults.specs.Faults.{race}
+use borrow.Author.Needs.{needs}
+use Rattle.faults.proofs.faults.is_race.Statement.{statement}
+use Rattle.faults.proofs.faults.is_race.Tie as tie
+
+returns : tie.Need-returns
+unfolding race
+returns c = simp (le-ltb _ _ (c .if1 .taken))
+
+returns-2 : tie.Need-returns-2
+unfolding race
+returns-2 c = simp (lt-ltb _ _ (c .before .before .if1 .left), sym (c .before .conflict .ensures) ∙ not-true _ (c .if2 .taken))
+
+returns-3 : tie.Need-returns-3
+unfolding race
+returns-3 c =
+    simp (
+      lt-ltb _ _ (c .before .before .before .before .before .if1 .left),
+      sym (c .before .before .before .before .conflict .ensures) ∙ not-false _ (c .before .before .before .if2 .left),
+      eq-eqb _ _ (sym (c .before .before .thread-of .ensures) ∙ c .if3 .taken ∙ c .before .thread-of2 .ensures),
+    )
+
+returns-4 : tie.Need-returns-4
+unfolding race
+returns-4 c =
+    let k = c .before .before .before .before in
+    simp (
+      lt-ltb _ _ (k .before .before .before .if1 .left),
+      sym (k .before .before .conflict .ensures) ∙ not-false _ (k .before .if2 .left),
+      ne-eqb _ _ (λ e. c .before .before .if3 .left (k .thread-of .ensures ∙ e ∙ sym (c .before .before .before .thread-of2 .ensures))),
+      c .before .related .ensures,
+      c .related2 .ensures,
+    )
+
+pub is-race-spec : {M : Type 1} → statement M
+unfolding mostRows
+is-race-spec =
+    tie.close
+    (tie.spec
+    returns
+    (λ c κs. search needs)
+    returns-2
+    (λ c κs. search needs)
+    (λ c κs. search needs)
+    returns-3
+    (λ c. search needs)
+    (λ c. search needs)
+    (λ c. search needs)
+    (λ c κs. search needs)
+    (λ c. search needs)
+    (λ c. search needs)
+    (λ c κs. search needs)
+    returns-4)

@@ -1,0 +1,93 @@
+// What is found: refusals 1 to 4, or the verdict of the search, with the sheet.
+ghost use mathlib.Core.Path.{_≡_};
+ghost use mathlib.Core.List.{[]};
+ghost use lib.ListN.{length};
+ghost use Prim.Native.Nat.{_≤_};
+ghost use Rattle.tables.specs.Rows.{rows};
+ghost use Rattle.tables.specs.Rules.{Keeps};
+ghost use Rattle.tables.specs.Verdicts.{numbered};
+ghost use Rattle.relation.specs.Table.{related};
+ghost use Rattle.sheet.specs.Sheet.{sheetOf};
+ghost use Rattle.faults.specs.Order.{numberAt};
+ghost use Rattle.faults.specs.Findings.{refused, Looked, Finds};
+use crate::faults::Fault;
+use crate::faults::search;
+use crate::order::put_order;
+use relation::table_words;
+use sheet::Sheet;
+use tables::Verdict;
+use tables::check_tables;
+
+pub struct Finding {
+    pub verdict: Verdict,
+    pub sheet: Sheet,
+}
+
+// A verdict without a fault's pairs.
+pub fn bare(verdict: Verdict) -> Finding
+    ensures { λ r. ⌜ r ≡ record { verdict = verdict; sheet = sheetOf [] } ⌝ }
+{
+    Finding {
+        verdict,
+        sheet: Sheet::empty(),
+    }
+}
+
+// 1 to 4, or 0, of tables and the lengths of the two rooms.
+pub fn refuse(commands: &[u32], lengths: &[u32], relation: usize, generations: usize) -> Verdict
+    ensures { λ r. ⌜ numbered r ≡ refused (now (commands .entry)) (now (lengths .entry)) relation generations ⌝ }
+{
+    let verdict = check_tables(commands, lengths);
+    if verdict.number().number != 0 {
+        return verdict;
+    }
+    let m = commands.len() / 3;
+    if relation < table_words(m as u32) {
+        return Verdict::ShortRoom(0);
+    }
+    if generations < m {
+        return Verdict::ShortRoom(1);
+    }
+    Verdict::Clean
+}
+
+// 10, 11 or 0, with the sheet. Races are looked for only when there is no reuse fault.
+fn look(commands: &[u32], lengths: &[u32], generations: &[u32], relation: &[u32]) -> Finding
+    requires { ⌜ Keeps (now commands) (now lengths) × (rows (now commands) ≤ length (now generations)) ⌝ }
+    ensures { λ r. ⌜ Looked (now (commands .entry)) (now (lengths .entry)) (numberAt (now (generations .entry))) (related (now (relation .entry)) (rows (now (commands .entry)))) r ⌝ }
+{
+    let reuses = search(Fault::Reuse, commands, lengths, generations, relation);
+    if reuses.total != 0 {
+        let pair = reuses.pairs[0];
+        return Finding {
+            verdict: Verdict::Reuse(pair.first, pair.second),
+            sheet: reuses,
+        };
+    }
+    let races = search(Fault::Race, commands, lengths, generations, relation);
+    if races.total != 0 {
+        let pair = races.pairs[0];
+        return Finding {
+            verdict: Verdict::Race(pair.first, pair.second),
+            sheet: races,
+        };
+    }
+    bare(Verdict::Clean)
+}
+
+// Any tables, any numbers offered as generations, any room. A refusal leaves the room as it was.
+pub fn find_faults(
+    commands: &[u32],
+    lengths: &[u32],
+    generations: &[u32],
+    relation: &mut [u32],
+) -> Finding
+    ensures { λ r. ⌜ Finds (now (commands .entry)) (now (lengths .entry)) (now (generations .entry)) (now (relation .entry)) r (now (relation .exit)) ⌝ }
+{
+    let refusal = refuse(commands, lengths, relation.len(), generations.len());
+    if refusal.number().number != 0 {
+        return bare(refusal);
+    }
+    put_order(commands, lengths, generations, relation);
+    look(commands, lengths, generations, relation)
+}

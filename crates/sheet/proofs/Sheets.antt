@@ -1,0 +1,52 @@
+-- Pairs that are added one after the other make the sheet of their list. Assumes nothing.
+use mathlib.Core.Path.{_≡_, refl, sym, ap, ap₂, _∙_}
+use mathlib.Core.Logic.{by-cases}
+use mathlib.Core.List.{List, [], _∷_, _++_, append-assoc, append-nil}
+use Prim.Native.Nat.{ℕ, zero, suc, _+_, _≤_, _<_}
+use native.Mathlib.Decide.{decLt}
+use native.Mathlib.Omega.{arith}
+use lib.ListN.{length, set, length-append}
+use borrow.Author.Tests.{lt-ltb, le-ltb}
+use Rattle.sheet.specs.declared.Pair.{Pair}
+use Rattle.sheet.specs.declared.Sheet.{Sheet}
+use Rattle.sheet.specs.Sheet.{mostKept, mostCounted, firsts, sheetOf, added, addAll}
+
+-- ---- one pair more
+
+kept : (n : ℕ) (ps : List Pair) (p : Pair) → length ps < n → set (firsts n ps) (length ps) p ≡ firsts n (ps ++ p ∷ [])
+unfolding firsts
+kept zero ps p h = absurd (omega arith)
+kept (suc n) [] p h = refl
+kept (suc n) (q ∷ ps) p h = ap (λ (l : List Pair). q ∷ l) (kept n ps p (omega arith))
+
+full : (n : ℕ) (ps : List Pair) (p : Pair) → n ≤ length ps → firsts n ps ≡ firsts n (ps ++ p ∷ [])
+unfolding firsts
+full zero ps p h = refl
+full (suc n) [] p h = absurd (omega arith)
+full (suc n) (q ∷ ps) p h = ap (λ (l : List Pair). q ∷ l) (full n ps p (omega arith))
+
+added-sheet : (ps : List Pair) (p : Pair) → length ps < mostCounted → added (sheetOf ps) p ≡ sheetOf (ps ++ p ∷ [])
+unfolding added sheetOf
+added-sheet ps p l =
+    ap₂ (λ (l : List Pair) (n : ℕ). record { pairs = l; total = n })
+    (by-cases (decLt (length ps) mostKept) (λ (h : length ps < mostKept). rw (lt-ltb _ _ h) (kept mostKept ps p h))
+    (λ (h : ¬ (length ps < mostKept)). rw (le-ltb (length ps) mostKept (omega arith)) (full mostKept ps p (omega arith))))
+    (omega (arith, length-append ps (p ∷ [])))
+
+-- ---- a list more
+
+pub addAll-append : (s : Sheet) (ps qs : List Pair) → addAll s (ps ++ qs) ≡ addAll (addAll s ps) qs
+unfolding addAll
+addAll-append s [] qs = refl
+addAll-append s (p ∷ ps) qs = addAll-append (added s p) ps qs
+
+addAll-from : (ps qs : List Pair) → length ps + length qs ≤ mostCounted → addAll (sheetOf ps) qs ≡ sheetOf (ps ++ qs)
+unfolding addAll
+addAll-from ps [] l = ap sheetOf (sym (append-nil ps))
+addAll-from ps (q ∷ qs) l =
+    ap (λ (t : Sheet). addAll t qs) (added-sheet ps q (omega arith)) ∙ addAll-from (ps ++ q ∷ []) qs (omega (arith, length-append ps (q ∷ [])))
+    ∙ ap sheetOf (append-assoc ps (q ∷ []) qs)
+
+-- of so many as can be counted
+pub addAll-sheet : (ps : List Pair) → length ps ≤ mostCounted → addAll (sheetOf []) ps ≡ sheetOf ps
+addAll-sheet ps l = addAll-from [] ps (omega arith)

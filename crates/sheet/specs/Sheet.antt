@@ -1,0 +1,37 @@
+-- The fault sheet of a list of pairs: the first sixteen are kept, and later ones only raise the total.
+use mathlib.Core.Bool.{cond}
+use mathlib.Core.List.{List, [], _∷_}
+use Prim.Native.Nat.{ℕ, zero, suc, _+_, _-_, _^_, min}
+use lib.Dec.{ltb}
+use lib.ListN.{length, set}
+use Rattle.sheet.specs.declared.Pair.{Pair}
+use Rattle.sheet.specs.declared.Sheet.{Sheet}
+
+-- so many pairs are kept
+unfoldable pub mostKept : ℕ
+mostKept = 16
+
+-- so many can be counted; no review finds so many
+unfoldable pub mostCounted : ℕ
+mostCounted = 2 ^ 64 - 1
+
+abbrev pub pair : ℕ → ℕ → Pair
+pair x y = record { first = x; second = y }
+
+-- the first n pairs; unused places are 0
+unfoldable pub firsts : ℕ → List Pair → List Pair
+firsts zero ps = []
+firsts (suc n) [] = pair 0 0 ∷ firsts n []
+firsts (suc n) (p ∷ ps) = p ∷ firsts n ps
+
+unfoldable pub sheetOf : List Pair → Sheet
+sheetOf ps = record { pairs = firsts mostKept ps; total = length ps }
+
+-- One pair more. Sixteen pairs, then only the total grows; a total at the largest number of its type stays there.
+unfoldable pub added : Sheet → Pair → Sheet
+added s p = record { pairs = cond (ltb (s .total) mostKept) (set (s .pairs) (s .total) p) (s .pairs); total = min (s .total + 1) mostCounted }
+
+-- a list of pairs more, one after the other
+unfoldable pub addAll : Sheet → List Pair → Sheet
+addAll s [] = s
+addAll s (p ∷ ps) = addAll (added s p) ps

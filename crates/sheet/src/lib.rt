@@ -1,0 +1,63 @@
+// The fault sheet: the first pairs that are found are kept, and later ones only raise the total.
+ghost use mathlib.Core.Path.{_≡_};
+ghost use mathlib.Core.List.{[]};
+ghost use Rattle.sheet.specs.Sheet.{sheetOf, added};
+
+pub struct Pair {
+    pub first: usize,
+    pub second: usize,
+}
+
+pub struct Sheet {
+    pub pairs: [Pair; Sheet::KEPT],
+    pub total: usize,
+}
+
+impl Sheet {
+    // so many pairs are kept
+    pub const KEPT: usize = 16;
+
+    pub fn empty() -> Self
+        ensures { λ r. ⌜ r ≡ sheetOf [] ⌝ }
+    {
+        let none = Pair {
+            first: 0,
+            second: 0,
+        };
+        Sheet {
+            pairs: [none; Sheet::KEPT],
+            total: 0,
+        }
+    }
+
+    // One pair more, by value.
+    pub fn add(mut self, pair: Pair) -> Self
+        ensures { λ r. ⌜ r ≡ added self pair ⌝ }
+    {
+        let n = self.total;
+        if n < usize::MAX {
+            self.total = n + 1;
+        }
+        if n < Sheet::KEPT {
+            self.pairs[n] = pair;
+        }
+        self
+    }
+}
+
+// One pair more, in place.
+pub fn add_to(sheet: &mut Sheet, pair: Pair)
+    ensures { λ _. ⌜ now (sheet .exit) ≡ added (now (sheet .entry)) pair ⌝ }
+{
+    let s = *sheet;
+    *sheet = s.add(pair);
+}
+
+// One pair more for a caller that has the sheet by value: it is lent to `add_to` and comes back.
+pub fn with_pair(sheet: Sheet, pair: Pair) -> Sheet
+    ensures { λ r. ⌜ r ≡ added sheet pair ⌝ }
+{
+    let mut lent = sheet;
+    add_to(&mut lent, pair);
+    lent
+}
