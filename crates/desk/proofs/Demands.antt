@@ -15,11 +15,11 @@ use Rattle.tables.proofs.Rules.{kept, passes, passes-zero}
 use Rattle.spelling.specs.Machine.{Outcome, flat}
 use Rattle.notation.specs.declared.reading.Reading.{Reading}
 use Rattle.notation.specs.declared.reading.Reading.the-variants.{Unfit, Over, Accepted}
-use Rattle.grammar.specs.Grammar.{Program, Denotes, joined, threads, programLengths}
+use Rattle.grammar.specs.Grammar.{Listing, Denotes, allCommands, threads, listingLengths}
 use Rattle.notation.specs.Reading.{mostBytes, Answer, answered, rowNumbers, threadLengths}
 use Rattle.notation.specs.Promise.{Within, RefusedAt}
 use Rattle.notation.proofs.Readings.{denoted-found, Stands, reads, answered-reads, denoted-reads, reads-means}
-use Rattle.notation.proofs.Tabled.{program-checked}
+use Rattle.notation.proofs.Tabled.{listing-checked}
 use Rattle.replay.specs.Writer.{schedule}
 use Rattle.replay.specs.Schedules.{Complete}
 use Rattle.replay.proofs.Writing.{schedule-complete}
@@ -52,12 +52,12 @@ module _ (text : List ℕ) where
   read-told e = ap (λ (a : Answer). a .told) (sym (answered-reads text (mostRows * 3) mostThreads)) ∙ ap (λ (r : Reading). answered r .told) e
 
   -- a text that denotes a program within the limits: its tables are judged
-  module _ (x : Program) (d : Denotes text x) (w : Within text (mostRows * 3) mostThreads x) where
+  module _ (x : Listing) (d : Denotes text x) (w : Within text (mostRows * 3) mostThreads x) where
     abbrev n : List ℕ
     n = numbers x
 
     abbrev l : List ℕ
-    l = programLengths x
+    l = listingLengths x
 
     denoted-concluded : ofText text ≡ ofTables n l
     unfolding ofText
@@ -72,35 +72,35 @@ module _ (text : List ℕ) where
     denoted-told = ap (λ (k : Conclusion). k .told) denoted-concluded ∙ tables-told n l
 
   -- a reviewable text is judged by the writer's schedule
-  module _ {x : Program} (S : Reviewable text x) where
-    passed : checked (numbers x) (programLengths x) .number ≡ 0
+  module _ {x : Listing} (S : Reviewable text x) where
+    passed : checked (numbers x) (listingLengths x) .number ≡ 0
     passed = ap (λ (t : Told). t .number) (S .keeps)
 
-    keeps : Keeps (numbers x) (programLengths x)
-    keeps = passes (numbers x) (programLengths x) (S .keeps)
+    keeps : Keeps (numbers x) (listingLengths x)
+    keeps = passes (numbers x) (listingLengths x) (S .keeps)
 
     abbrev σ : List ℕ
-    σ = schedule (numbers x) (programLengths x)
+    σ = schedule (numbers x) (listingLengths x)
 
-    complete : Complete (numbers x) (programLengths x) σ
+    complete : Complete (numbers x) (listingLengths x) σ
     complete = schedule-complete keeps
 
-    reviewable-judges : Judges (numbers x) (programLengths x) σ number
+    reviewable-judges : Judges (numbers x) (listingLengths x) σ number
     reviewable-judges =
-        subst (Judges (numbers x) (programLengths x) σ) (ap (λ (t : Told). t .number) (sym (denoted-told x (S .denotes) (S .within) ∙ passed-told (numbers x) (programLengths x) passed σ)))
+        subst (Judges (numbers x) (listingLengths x) σ) (ap (λ (t : Told). t .number) (sym (denoted-told x (S .denotes) (S .within) ∙ passed-told (numbers x) (listingLengths x) passed σ)))
         (judges keeps σ)
 
     reviewable-number : (number ≡ 0) ⊎ ((7 ≤ number) × (number ≤ 11))
     reviewable-number =
         subst (λ (t : Told). (t .number ≡ 0) ⊎ ((7 ≤ t .number) × (t .number ≤ 11))) (sym (denoted-told x (S .denotes) (S .within)))
-        (complete-number (numbers x) (programLengths x) passed σ complete)
+        (complete-number (numbers x) (listingLengths x) passed σ complete)
 
   -- what a text is
   data Kind : Type 0 where
-    reviewable : (x : Program) → Reviewable text x → Kind
-    broken : number ≡ 3 → (x : Program) → Denotes text x → ofText text .told ≡ checked (numbers x) (programLengths x) → Kind
+    reviewable : (x : Listing) → Reviewable text x → Kind
+    broken : number ≡ 3 → (x : Listing) → Denotes text x → ofText text .told ≡ checked (numbers x) (listingLengths x) → Kind
     unread : number ≡ 12 → RefusedAt text (ofText text .told .place) → Kind
-    over : number ≡ 13 → (mostBytes < length text) ⊎ ((x : Program) × Denotes text x × ¬ Within text (mostRows * 3) mostThreads x) → Kind
+    over : number ≡ 13 → (mostBytes < length text) ⊎ ((x : Listing) × Denotes text x × ¬ Within text (mostRows * 3) mostThreads x) → Kind
 
   refused-told : {t : Told} → readAs text ≡ t → (t .number ≡ 0 → ⊥) → ofText text .told ≡ t
   unfolding ofText
@@ -116,11 +116,11 @@ module _ (text : List ℕ) where
       by Over e s = over (ap (λ (t : Told). t .number) (refused-told (read-told e) (λ z. omega arith))) s
       by (Accepted m t) e (x, d, w) =
           ⊎-elim
-          (λ (z : checked (numbers x) (programLengths x) .number ≡ 0). reviewable x (record { denotes = d; within = w; keeps = kept (numbers x) (programLengths x) (passes-zero (numbers x) (programLengths x) z) }))
-          (λ (h : checked (numbers x) (programLengths x) .number ≡ 3).
-          let q : ofText text .told ≡ checked (numbers x) (programLengths x) = denoted-told x d w ∙ refused-checked (numbers x) (programLengths x) (λ z. omega arith) (schedule (numbers x) (programLengths x)) _ _ in
+          (λ (z : checked (numbers x) (listingLengths x) .number ≡ 0). reviewable x (record { denotes = d; within = w; keeps = kept (numbers x) (listingLengths x) (passes-zero (numbers x) (listingLengths x) z) }))
+          (λ (h : checked (numbers x) (listingLengths x) .number ≡ 3).
+          let q : ofText text .told ≡ checked (numbers x) (listingLengths x) = denoted-told x d w ∙ refused-checked (numbers x) (listingLengths x) (λ z. omega arith) (schedule (numbers x) (listingLengths x)) _ _ in
           broken (ap (λ (t : Told). t .number) q ∙ h) x d q)
-          (program-checked x (w .few-rows) (w .few-threads))
+          (listing-checked x (w .few-rows) (w .few-threads))
 
   -- a reviewable text's number is none of a refusal's
   not-refused : (number ≡ 0) ⊎ ((7 ≤ number) × (number ≤ 11)) → (number ≡ 3) ⊎ (12 ≤ number) → ⊥
@@ -130,10 +130,10 @@ module _ (text : List ℕ) where
   not-refused (inr (a, b)) (inr z) = omega arith
 
   -- where a number is one of a reviewable text's, the text is reviewable
-  is-reviewable : (number ≡ 0) ⊎ ((7 ≤ number) × (number ≤ 11)) → (x : Program) × Reviewable text x
+  is-reviewable : (number ≡ 0) ⊎ ((7 ≤ number) × (number ≤ 11)) → (x : Listing) × Reviewable text x
   is-reviewable h = by kind
     where
-      by : Kind → (x : Program) × Reviewable text x
+      by : Kind → (x : Listing) × Reviewable text x
       by (reviewable x S) = (x, S)
       by (broken e _ _ _) = absurd (not-refused h (inl e))
       by (unread e _) = absurd (not-refused h (inr (omega arith)))
@@ -162,10 +162,10 @@ module _ (text : List ℕ) where
       }
 
   -- what is not within the limits
-  past : (x : Program) → ¬ Within text (mostRows * 3) mostThreads x → length text ≤ mostBytes → (mostRows < length (joined (threads x))) ⊎ (mostThreads < length (threads x))
+  past : (x : Listing) → ¬ Within text (mostRows * 3) mostThreads x → length text ≤ mostBytes → (mostRows < length (allCommands (threads x))) ⊎ (mostThreads < length (threads x))
   past x w b =
-      by-cases (decLt mostRows (length (joined (threads x)))) inl
-      (λ (r : ¬ (mostRows < length (joined (threads x)))).
+      by-cases (decLt mostRows (length (allCommands (threads x)))) inl
+      (λ (r : ¬ (mostRows < length (allCommands (threads x)))).
       by-cases (decLt mostThreads (length (threads x))) inr
       (λ (t : ¬ (mostThreads < length (threads x))).
       absurd (w (record { bytes = b; few-rows = omega arith; few-threads = omega arith; room = omega arith; places = omega arith }))))
@@ -194,7 +194,7 @@ module _ (text : List ℕ) where
             too-much =
                 λ _.
                 ⊎-elim inl
-                (λ (p : (x : Program) × Denotes text x × ¬ Within text (mostRows * 3) mostThreads x).
+                (λ (p : (x : Listing) × Denotes text x × ¬ Within text (mostRows * 3) mostThreads x).
                 by-cases (decLt mostBytes (length text)) inl
                 (λ (b : ¬ (mostBytes < length text)). inr (p .0, p .1, past (p .0) (p .2) (omega arith))))
                 s;

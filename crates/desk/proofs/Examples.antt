@@ -9,21 +9,22 @@ use Rattle.relation.specs.Chains.{rounds}
 use Rattle.relation.specs.Table.{width}
 use Rattle.schedules.specs.Order.{edge, reach}
 use Rattle.spelling.specs.Bytes.{classOf, run}
-use Rattle.spelling.specs.Words.{alike}
+use Rattle.spelling.specs.Words.{sameBytes}
 use Rattle.spelling.specs.Numbers.{mostNumber, decimal, numeralOf}
 use Rattle.spelling.specs.Tokens.{cutsN}
 use Rattle.spelling.specs.Machine.{flat, found}
-use Rattle.notation.specs.Tokens.{wordOf, markOf, pieceOf}
-use Rattle.notation.specs.Automaton.{stepped as moved}
+use Rattle.grammar.specs.Tokens.{wordOf, markOf, pieceOf}
+use Rattle.grammar.specs.Automaton.{tokenMoves}
 use Rattle.notation.specs.Reading.{mostBytes, judgedOf, tooMany, reading}
 use Rattle.replay.specs.State.{start}
 use Rattle.replay.specs.Step.{allowed, registering, running, stepped}
 use Rattle.replay.specs.Replay.{playing, played}
 use Rattle.replay.specs.Ending.{ended, judged}
 use Rattle.replay.specs.Writer.{lowestFirst, schedule}
-use Rattle.review.specs.Sheet.{mostKept, firsts, sheetOf}
-use Rattle.review.specs.Faults.{succeeds, reuse, conflict, race, alongRow, allRows, faults}
-use Rattle.review.specs.Judge.{refused, verdictOf}
+use Rattle.sheet.specs.Sheet.{mostKept, firsts, sheetOf}
+use Rattle.faults.specs.Faults.{succeeds, reuse, conflict, race, alongRow, allRows, faults}
+use Rattle.faults.specs.Findings.{refused}
+use Rattle.review.specs.Judge.{verdictOf}
 use Rattle.desk.specs.Figures.{figuresTo, figures}
 use Rattle.desk.specs.Conclusion.{ofTables, ofText}
 use Rattle.desk.specs.Report.{twoNumbers, verdictLine, totalLine, pairLines, report}
@@ -32,7 +33,7 @@ use Rattle.desk.specs.Examples.{reports, reported}
 pub every : reported reports ≡ true
 unfolding reports reported
     mostRows mostThreads addresses barriers mostCount total firstRow threadOf lowest rowKeeps firstBad checked rounds width edge reach
-    classOf run alike mostNumber decimal numeralOf cutsN flat found wordOf markOf pieceOf moved mostBytes judgedOf tooMany reading
+    classOf run sameBytes mostNumber decimal numeralOf cutsN flat found wordOf markOf pieceOf tokenMoves mostBytes judgedOf tooMany reading
     start allowed registering running stepped playing played ended judged lowestFirst schedule mostKept firsts sheetOf
     succeeds reuse conflict race alongRow allRows faults refused verdictOf
     figuresTo figures ofTables ofText twoNumbers verdictLine totalLine pairLines report

@@ -14,11 +14,11 @@ use Rattle.tables.specs.declared.verdict.Told.{Told}
 use Rattle.spelling.specs.Machine.{flat, Outcome}
 use Rattle.notation.specs.declared.reading.Reading.{Reading}
 use Rattle.notation.specs.declared.reading.Reading.the-variants.{Unfit, Over, Accepted}
-use Rattle.grammar.specs.Grammar.{Command, joined, threads, programRows, programLengths}
+use Rattle.grammar.specs.Grammar.{Command, allCommands, threads, listingRows, listingLengths}
 use Rattle.notation.specs.Reading.{rowNumbers, threadLengths, Answer, answered}
 use Rattle.notation.specs.Promise.{Read}
 use Rattle.notation.proofs.Readings.{denoted-found}
-use Rattle.notation.proofs.Tabled.{program-long}
+use Rattle.notation.proofs.Tabled.{listing-long}
 use Rattle.notation.proofs.reading.Reading as R
 use Rattle.sheet.specs.declared.Sheet.{Sheet}
 use Rattle.sheet.specs.Sheet.{sheetOf}
@@ -51,17 +51,17 @@ module _ {text commands lengths commands′ lengths′ : List ℕ} {r : Reading}
         let (x, d, w) = reads .by-grammar .accepted m t is in
         let h = reads .by-grammar .accepts x d w in
         let f = denoted-found text x d in
-        let q : Accepted (length (joined (threads x))) (length (threads x)) ≡ Accepted m t = sym (h .many) ∙ is in
-        let i : length (joined (threads x)) ≡ m = cc in
+        let q : Accepted (length (allCommands (threads x))) (length (threads x)) ≡ Accepted m t = sym (h .many) ∙ is in
+        let i : length (allCommands (threads x)) ≡ m = cc in
         let j : length (threads x) ≡ t = cc in
-        let a : rowNumbers text ≡ flat (programRows x) = ap (λ (o : Outcome). flat (o .rows)) f in
-        let b : threadLengths text ≡ programLengths x = ap (λ (o : Outcome). o .lengths) f in
-        let u : length (flat (programRows x)) ≡ m * 3 = omega (arith, program-long x) in
-        let v : length (programLengths x) ≡ t = length-map (threads x) (λ (w : List Command). length w) ∙ j in (
-          ap (λ (l : List ℕ). take (m * 3) l) (h .rows) ∙ take-at (flat (programRows x)) _ (m * 3) u ∙ sym a,
-          ap (λ (l : List ℕ). take t l) (h .lens) ∙ take-at (programLengths x) _ t v ∙ sym b,
-          omega (arith, ap (λ (l : List ℕ). length l) (h .rows), length-append (flat (programRows x)) (drop (length (flat (programRows x))) commands)),
-          omega (arith, ap (λ (l : List ℕ). length l) (h .lens), length-append (programLengths x) (drop (length (programLengths x)) lengths)),
+        let a : rowNumbers text ≡ flat (listingRows x) = ap (λ (o : Outcome). flat (o .rows)) f in
+        let b : threadLengths text ≡ listingLengths x = ap (λ (o : Outcome). o .lengths) f in
+        let u : length (flat (listingRows x)) ≡ m * 3 = omega (arith, listing-long x) in
+        let v : length (listingLengths x) ≡ t = length-map (threads x) (λ (w : List Command). length w) ∙ j in (
+          ap (λ (l : List ℕ). take (m * 3) l) (h .rows) ∙ take-at (flat (listingRows x)) _ (m * 3) u ∙ sym a,
+          ap (λ (l : List ℕ). take t l) (h .lens) ∙ take-at (listingLengths x) _ t v ∙ sym b,
+          omega (arith, ap (λ (l : List ℕ). length l) (h .rows), length-append (flat (listingRows x)) (drop (length (flat (listingRows x))) commands)),
+          omega (arith, ap (λ (l : List ℕ). length l) (h .lens), length-append (listingLengths x) (drop (length (listingLengths x)) lengths)),
           omega (arith, w .few-rows),
         )
 

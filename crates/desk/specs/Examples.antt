@@ -2,7 +2,7 @@
 use mathlib.Core.Bool.{Bool, true, _&&_}
 use mathlib.Core.List.{List, [], _∷_}
 use Prim.Native.Nat.{ℕ}
-use Rattle.spelling.specs.Words.{alike}
+use Rattle.spelling.specs.Words.{sameBytes}
 use Rattle.desk.specs.Conclusion.{ofText}
 use Rattle.desk.specs.Report.{report}
 
@@ -40,4 +40,4 @@ reports =
 -- the report of each text is the one given
 unfoldable pub reported : List Reported → Bool
 reported [] = true
-reported (e ∷ es) = alike (report (ofText (e .text))) (e .bytes) && reported es
+reported (e ∷ es) = sameBytes (report (ofText (e .text))) (e .bytes) && reported es

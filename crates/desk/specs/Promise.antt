@@ -10,7 +10,7 @@ use Rattle.tables.specs.Verdicts.{tell}
 use Rattle.tables.specs.declared.verdict.Told.{Told}
 use Rattle.spelling.specs.Machine.{flat}
 use Rattle.spelling.specs.Over.{over}
-use Rattle.grammar.specs.Grammar.{Program, Denotes, joined, threads, programRows, programLengths}
+use Rattle.grammar.specs.Grammar.{Listing, Denotes, allCommands, threads, listingRows, listingLengths}
 use Rattle.notation.specs.Reading.{mostBytes}
 use Rattle.notation.specs.Promise.{Within, RefusedAt}
 use Rattle.replay.specs.Schedules.{Agree, Disagree}
@@ -21,33 +21,33 @@ use Rattle.desk.specs.Conclusion.{ofText}
 use Rattle.desk.specs.Report.{leastRoom, report}
 
 -- the numbers of a program's command table
-abbrev pub numbers : Program → List ℕ
-numbers x = flat (programRows x)
+abbrev pub numbers : Listing → List ℕ
+numbers x = flat (listingRows x)
 
 -- The text denotes the program, which is within the limits, and its rows keep the rules.
-pub record Reviewable (text : List ℕ) (x : Program) : Type 0 where
+pub record Reviewable (text : List ℕ) (x : Listing) : Type 0 where
   pub denotes : Denotes text x
   pub within : Within text (mostRows * 3) mostThreads x
-  pub keeps : checked (numbers x) (programLengths x) ≡ tell 0 0 0
+  pub keeps : checked (numbers x) (listingLengths x) ≡ tell 0 0 0
 
 -- Demand 3, of a text and the number that it is answered with.
 pub record JudgesText (text : List ℕ) (n : ℕ) : Type 0 where
   -- 0 or 11 exactly when every legal complete schedule of the text's program ends clean with the same generation for each command
-  pub agreement : ((n ≡ 0) ⊎ (n ≡ 11)) ↔ ((x : Program) × Reviewable text x × Agree (numbers x) (programLengths x))
+  pub agreement : ((n ≡ 0) ⊎ (n ≡ 11)) ↔ ((x : Listing) × Reviewable text x × Agree (numbers x) (listingLengths x))
   -- 0 exactly when, besides, every two conflicting accesses stand in the same order in all of them
-  pub order : (n ≡ 0) ↔ ((x : Program) × Reviewable text x × Agree (numbers x) (programLengths x) × SameOrder (numbers x) (programLengths x))
+  pub order : (n ≡ 0) ↔ ((x : Listing) × Reviewable text x × Agree (numbers x) (listingLengths x) × SameOrder (numbers x) (listingLengths x))
   -- 7 to 10 only where that agreement fails
-  pub disagreement : 7 ≤ n → n ≤ 10 → (x : Program) × Reviewable text x × Disagree (numbers x) (programLengths x)
+  pub disagreement : 7 ≤ n → n ≤ 10 → (x : Listing) × Reviewable text x × Disagree (numbers x) (listingLengths x)
 
 -- Which numbers there are, and what 3, 12 and 13 say of the text. Its rooms are full ones, so it never answers 4, and 13 only past the limits; its tables are of the
 -- reader's making and its schedule of the writer's, so 1, 2, 5 and 6 don't come either.
 pub record Possible (text : List ℕ) (t : Told) : Type 0 where
   pub some : (t .number ≡ 0) ⊎ (t .number ≡ 3) ⊎ ((7 ≤ t .number) × (t .number ≤ 13))
-  pub broken : t .number ≡ 3 → (x : Program) × Denotes text x × (t ≡ checked (numbers x) (programLengths x))
+  pub broken : t .number ≡ 3 → (x : Listing) × Denotes text x × (t ≡ checked (numbers x) (listingLengths x))
   pub unfit : t .number ≡ 12 → RefusedAt text (t .place)
   pub too-much : t .number ≡ 13
       → (mostBytes < length text)
-      ⊎ ((x : Program) × Denotes text x × ((mostRows < length (joined (threads x))) ⊎ (mostThreads < length (threads x))))
+      ⊎ ((x : Listing) × Denotes text x × ((mostRows < length (allCommands (threads x))) ⊎ (mostThreads < length (threads x))))
 
 -- The contract of `review_text`: n is the answer, and the report room held `room` and then holds `room′`.
 pub record TextReviewed (text room room′ : List ℕ) (n : ℕ) : Type 0 where

@@ -32,7 +32,7 @@ Reached commands lengths g before after = Holds before after (rows commands) (Re
 -- ---- what the parts ask for, and leave
 
 -- rows i and j are there, and their generations
-pub record TwoRows (commands generations : List ℕ) (i j : ℕ) : Type 0 where
+pub record TwoCommands (commands generations : List ℕ) (i j : ℕ) : Type 0 where
   pub from : i < rows commands
   pub to : j < rows commands
   pub whole : rows commands ≤ length generations

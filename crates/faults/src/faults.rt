@@ -5,7 +5,7 @@ ghost use lib.ListN.{length};
 ghost use Rattle.tables.specs.Rows.{rows};
 ghost use Rattle.tables.specs.Rules.{Keeps};
 ghost use Rattle.relation.specs.Table.{related};
-ghost use Rattle.faults.specs.Order.{numberAt, TwoRows};
+ghost use Rattle.faults.specs.Order.{numberAt, TwoCommands};
 ghost use Rattle.sheet.specs.Sheet.{sheetOf, addAll};
 ghost use Rattle.faults.specs.Faults.{succeeds, reuse, conflict, race, faulty, pairOf, alongRow, faults, Looks, Searches};
 use crate::order::is_first;
@@ -25,7 +25,7 @@ pub enum Fault {
 
 // Have c1 and c2 the same barrier, and is c2 one generation after c1?
 fn succeeds(commands: &[u32], generations: &[u32], c1: usize, c2: usize) -> bool
-    requires { ⌜ TwoRows (now commands) (now generations) c1 c2 ⌝ }
+    requires { ⌜ TwoCommands (now commands) (now generations) c1 c2 ⌝ }
     ensures { λ r. ⌜ r ≡ succeeds (now (commands .entry)) (numberAt (now (generations .entry))) c1 c2 ⌝ }
 {
     let both = (Table::ARRIVE <= commands[c1 * 3]) & (Table::ARRIVE <= commands[c2 * 3]);

@@ -5,7 +5,7 @@ ghost use lib.Dec.{eqb};
 ghost use lib.ListN.{length};
 ghost use Rattle.tables.specs.Limits.{mostThreads};
 ghost use Rattle.tables.specs.Rows.{rows, name, isFirst};
-ghost use Rattle.faults.specs.Order.{numberAt, meets, edges, Drawn, TwoRows, Ordering, Roomy, Reached};
+ghost use Rattle.faults.specs.Order.{numberAt, meets, edges, Drawn, TwoCommands, Ordering, Roomy, Reached};
 use relation::clear;
 use relation::close;
 use relation::relate;
@@ -31,7 +31,7 @@ pub(crate) fn same_name(commands: &[u32], i: usize, j: usize) -> bool
 
 // Does i register where and when j syncs: at the same barrier, in the same generation?
 fn meets(commands: &[u32], generations: &[u32], i: usize, j: usize) -> bool
-    requires { ⌜ TwoRows (now commands) (now generations) i j ⌝ }
+    requires { ⌜ TwoCommands (now commands) (now generations) i j ⌝ }
     ensures { λ r. ⌜ r ≡ meets (now (commands .entry)) (numberAt (now (generations .entry))) i j ⌝ }
 {
     let registers = Table::ARRIVE <= commands[i * 3];
@@ -43,7 +43,7 @@ fn meets(commands: &[u32], generations: &[u32], i: usize, j: usize) -> bool
 
 // Is j the same command as i, its thread's next, or one that i meets?
 fn edge(commands: &[u32], lengths: &[u32], generations: &[u32], i: usize, j: usize) -> bool
-    requires { ⌜ (length (now lengths) ≤ mostThreads) × TwoRows (now commands) (now generations) i j ⌝ }
+    requires { ⌜ (length (now lengths) ≤ mostThreads) × TwoCommands (now commands) (now generations) i j ⌝ }
     ensures { λ r. ⌜ r ≡ edges (now (commands .entry)) (now (lengths .entry)) (numberAt (now (generations .entry))) i j ⌝ }
 {
     if i == j {

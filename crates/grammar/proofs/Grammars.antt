@@ -16,11 +16,11 @@ use Rattle.grammar.specs.declared.automaton.State.the-variants.{Word, Ad
 use Rattle.grammar.specs.Tokens.{sizeOf, tokenOf}
 use Rattle.grammar.specs.Spelling.{Spelling, extends, returnWord}
 use Rattle.grammar.specs.Grammar as G
-use Rattle.grammar.specs.Grammar.{access, signal, threadTokens, behind, programTokens, Whole, Spells}
-use Rattle.grammar.specs.Automaton.{stepped, ended, move, next}
+use Rattle.grammar.specs.Grammar.{access, signal, threadTokens, behind, listingTokens, Whole, Spells}
+use Rattle.grammar.specs.Automaton.{tokenMoves, mayEnd, move, nextMove}
 use Rattle.grammar.proofs.Lexes.{Fits, token-found, size-found, some, tight, spelt, apart, pos, most, blank-ends}
 use Rattle.grammar.proofs.Steps.{by-step}
-use Rattle.grammar.proofs.Programs.{program-found}
+use Rattle.grammar.proofs.Listings.{listing-found}
 
 -- the tokens of a program from a thread's command on
 abbrev rest : List G.Command → List (List G.Command) → List Token
@@ -43,7 +43,7 @@ module _ (u : State) (ts : List Token) (h : Left u ts) where
   before : (t : Token) {us : List Token} → ts ≡ us → t ∷ ts ≡ t ∷ us
   before t q = ap (λ (l : List Token). t ∷ l) q
 
-  back : (s : State) (t : Token) → Goes next s t u → Left s (t ∷ ts)
+  back : (s : State) (t : Token) → Goes nextMove s t u → Left s (t ∷ ts)
   unfolding threadTokens behind
   back =
       by-step (λ s t m. To (move m) u → Left s (t ∷ ts)) (λ s t g. absurd g)
@@ -57,7 +57,7 @@ module _ (u : State) (ts : List Token) (h : Left u ts) where
       (λ e. let (cs, us, q) = on Word e in (cs ∷ us, before Bars q))
 
 -- a text may end after a thread only
-left-end : (s : State) → ended s ≡ true → Left s []
+left-end : (s : State) → mayEnd s ≡ true → Left s []
 unfolding behind
 left-end Word e = absurd (true≢false (sym e))
 left-end (Address k) e = absurd (true≢false (sym e))
@@ -66,15 +66,15 @@ left-end (Count k b) e = absurd (true≢false (sym e))
 left-end Close e = absurd (true≢false (sym e))
 left-end Part e = ([], refl)
 
-left : (ts : List Token) (s u : State) → Walk next ts s u → ended u ≡ true → Left s ts
-left [] s u w e = left-end s (ap ended w ∙ e)
+left : (ts : List Token) (s u : State) → Walk nextMove ts s u → mayEnd u ≡ true → Left s ts
+left [] s u w e = left-end s (ap mayEnd w ∙ e)
 left (t ∷ ts) s u (v, g, w) e = back v ts (left ts v u w e) s t g
 
-sound : (ts : List Token) (u : State) → Walk next ts Word u → ended u ≡ true → Whole ts
+sound : (ts : List Token) (u : State) → Walk nextMove ts Word u → mayEnd u ≡ true → Whole ts
 sound ts u w e = let (cs, us, q) = left ts Word u w e in (record { first = cs; others = us }, q)
 
-complete : (ts : List Token) → Whole ts → (u : State) × Walk next ts Word u × (ended u ≡ true)
-complete ts (x, e) = rw e (found-none next ended (programTokens x) Word 0 (rw (program-found x)))
+complete : (ts : List Token) → Whole ts → (u : State) × Walk nextMove ts Word u × (mayEnd u ≡ true)
+complete ts (x, e) = rw e (found-none nextMove mayEnd (listingTokens x) Word 0 (rw (listing-found x)))
 
 -- bytes that end a text
 return-spelt : Spells returnWord (Return ∷ [])
@@ -101,8 +101,8 @@ two-spelt : Spells (48 ∷ 32 ∷ 48 ∷ 59 ∷ returnWord) (Number 0 ∷ Number
 unfolding run classOf
 two-spelt = token (48 ∷ 32 ∷ 48 ∷ 59 ∷ returnWord) (48 ∷ []) (32 ∷ 48 ∷ 59 ∷ returnWord) (Number 0) zero-means refl refl (gap 32 refl number-spelt)
 
-live : (s : State) → (w : List ℕ) × (ts : List Token) × (u : State) × Spells w ts × Walk next ts s u × (ended u ≡ true)
-unfolding stepped
+live : (s : State) → (w : List ℕ) × (ts : List Token) × (u : State) × Spells w ts × Walk nextMove ts s u × (mayEnd u ≡ true)
+unfolding tokenMoves
 live Word = (returnWord, Return ∷ [], Part, return-spelt, (Part, refl, refl), refl)
 live (Address k) =
     (48 ∷ 59 ∷ returnWord, Number 0 ∷ Semi ∷ Return ∷ [], Part, number-spelt, (Close, refl, (Word, refl, (Part, refl, refl))), refl)
@@ -114,7 +114,7 @@ live Close = (59 ∷ returnWord, Semi ∷ Return ∷ [], Part, close-spelt, (Wor
 live Part = (124 ∷ 124 ∷ returnWord, Bars ∷ Return ∷ [], Part, part-spelt, (Word, refl, (Part, refl, refl)), refl)
 
 -- what goes on is a token of the notation
-fits : (s : State) (t : Token) (u : State) → Goes next s t u → Fits t
+fits : (s : State) (t : Token) (u : State) → Goes nextMove s t u → Fits t
 fits s t u =
     by-step (λ s t m. To (move m) u → Fits t) (λ s t g. absurd g) (λ k e. tt) (λ k e. tt) (λ e. tt) (λ k g e. tt) (λ k b e. tt) (λ k b n e. tt) (λ e. tt) (λ e. tt)
     s t
@@ -133,5 +133,5 @@ lexer =
       blank-ends = blank-ends;
     }
 
-pub grammar : Grammar next ended Word Fits Spells Whole
+pub grammar : Grammar nextMove mayEnd Word Fits Spells Whole
 grammar = record { fits = fits; sound = sound; complete = complete; live = live }

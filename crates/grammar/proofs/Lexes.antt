@@ -11,7 +11,7 @@ use lib.Seq.{take-append-seam}
 use borrow.Author.Tests.{eqb-true}
 use Rattle.tables.specs.Rows.{read, write, arrive, sync}
 use Rattle.spelling.specs.Bytes.{classOf, is, blank, letter, digit, run, blanks}
-use Rattle.spelling.specs.Words.{alike}
+use Rattle.spelling.specs.Words.{sameBytes}
 use Rattle.spelling.specs.Numbers.{Means}
 use Rattle.spelling.proofs.Runs.{run-none, run-none-at, run-whole, run-stops}
 use Rattle.spelling.proofs.Numbers.{means-number}
@@ -84,7 +84,7 @@ tight w s =
     (λ w n m. run-none-at (is blank) (w ++ s) (rw (← first digit w s (m .some) (m .digits)))) refl refl w
 
 found : (w s : List ℕ) (t : Token) → Spelling w t → run (extends t) s ≡ 0 → sized t (length w) ≡ pieceOf (w ++ s)
-unfolding run classOf wordOf alike pieceOf markOf
+unfolding run classOf wordOf sameBytes pieceOf markOf
 found w s =
     by-spelling (λ w t. run (extends t) s ≡ 0 → sized t (length w) ≡ pieceOf (w ++ s))
     (word-found readWord s (Access read) (omega arith) refl refl) (word-found writeWord s (Access write) (omega arith) refl refl)

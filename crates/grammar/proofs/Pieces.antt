@@ -10,7 +10,7 @@ use lib.Seq.{take-all, drop-drop}
 use borrow.Author.Tests.{eq-eqb, ne-eqb, eqb-true}
 use Rattle.tables.specs.Rows.{read, write, arrive, sync}
 use Rattle.spelling.specs.Bytes.{classOf, is, blank, letter, digit, run, blanks}
-use Rattle.spelling.specs.Words.{alike}
+use Rattle.spelling.specs.Words.{sameBytes}
 use Rattle.spelling.specs.Numbers.{numeralOf, Means}
 use Rattle.spelling.specs.declared.number.Numeral.{Numeral}
 use Rattle.spelling.specs.declared.number.Numeral.the-variants as N
@@ -26,7 +26,7 @@ use Rattle.grammar.specs.Tokens.{wordOf, numeral, numberOf, sized, markO
 
 -- with the answers of its tests
 pub word-is : (w : List ℕ) (a b c d e : Bool)
-    → alike w readWord ≡ a → alike w writeWord ≡ b → alike w arriveWord ≡ c → alike w syncWord ≡ d → alike w returnWord ≡ e
+    → sameBytes w readWord ≡ a → sameBytes w writeWord ≡ b → sameBytes w arriveWord ≡ c → sameBytes w syncWord ≡ d → sameBytes w returnWord ≡ e
     → cond a (Access read) (cond b (Access write) (cond c (Signal arrive) (cond d (Signal sync) (cond e Return Misfit)))) ≡ wordOf w
 unfolding wordOf
 word-is w a b c d e p q r s t = rw (p, q, r, s, t)
@@ -63,9 +63,9 @@ pub by-word : (P : Token → Type 0) (w : List ℕ) → (w ≡ readWord → P (A
     → (w ≡ syncWord → P (Signal sync)) → (w ≡ returnWord → P Return) → P Misfit → P (wordOf w)
 unfolding wordOf
 by-word P w a b c d e m =
-    by-test P (alike w readWord) (λ h. a (alike-same w readWord h)) (λ h. by-test P (alike w writeWord) (λ h. b (alike-same w writeWord h))
-    (λ h. by-test P (alike w arriveWord) (λ h. c (alike-same w arriveWord h)) (λ h. by-test P (alike w syncWord) (λ h. d (alike-same w syncWord h))
-    (λ h. by-test P (alike w returnWord) (λ h. e (alike-same w returnWord h)) (λ h. m)))))
+    by-test P (sameBytes w readWord) (λ h. a (alike-same w readWord h)) (λ h. by-test P (sameBytes w writeWord) (λ h. b (alike-same w writeWord h))
+    (λ h. by-test P (sameBytes w arriveWord) (λ h. c (alike-same w arriveWord h)) (λ h. by-test P (sameBytes w syncWord) (λ h. d (alike-same w syncWord h))
+    (λ h. by-test P (sameBytes w returnWord) (λ h. e (alike-same w returnWord h)) (λ h. m)))))
 
 pub by-number : (P : Token → Type 0) (w : List ℕ) → ((n : ℕ) → Means w n → P (Number n)) → P Misfit → P (numberOf w)
 by-number P w f m = by-numeral (numeralOf w) refl

@@ -11,7 +11,7 @@ use Rattle.grammar.specs.declared.automaton.State.{State}
 use Rattle.grammar.specs.declared.automaton.State.the-variants.{Word, Address, Barrier, Count, Close, Part}
 use Rattle.grammar.specs.declared.automaton.Moved.{Moved}
 use Rattle.grammar.specs.declared.automaton.Moved.the-variants.{Refuse, On, Row, Thread}
-use Rattle.grammar.specs.Automaton.{atWord, atNumber, atClose, atPart, stepped, ended}
+use Rattle.grammar.specs.Automaton.{atWord, atNumber, atClose, atPart, tokenMoves, mayEnd}
 use Rattle.grammar.proofs.tokens.Token as T
 use Rattle.grammar.proofs.automaton.State as S
 
@@ -58,8 +58,8 @@ pub by-step : (P : State → Token → Moved → Type 0) → ((s : State) (t : T
     → ((k : ℕ) → P Word (Access k) (On (Address k))) → ((k : ℕ) → P Word (Signal k) (On (Barrier k))) → P Word Return Thread
     → ((k g : ℕ) → P (Address k) (Number g) (Row k g 0)) → ((k b : ℕ) → P (Barrier k) (Number b) (On (Count k b)))
     → ((k b n : ℕ) → P (Count k b) (Number n) (Row k b n)) → P Close Semi (On Word) → P Part Bars (On Word)
-    → (s : State) (t : Token) → P s t (stepped s t)
-unfolding stepped
+    → (s : State) (t : Token) → P s t (tokenMoves s t)
+unfolding tokenMoves
 by-step P off a s r g b n c p Word = by-command (P Word) (off Word) a s r
 by-step P off a s r g b n c p (Address k) = by-number (P (Address k)) (off (Address k)) (λ x. Row k x 0) (g k)
 by-step P off a s r g b n c p (Barrier k) = by-number (P (Barrier k)) (off (Barrier k)) (λ x. On (Count k x)) (b k)
@@ -76,17 +76,17 @@ others (Count k b) = 0 ∷ 1 ∷ 2 ∷ 4 ∷ 5 ∷ 6 ∷ []
 others Close = 0 ∷ 1 ∷ 2 ∷ 3 ∷ 5 ∷ 6 ∷ []
 others Part = 0 ∷ 1 ∷ 2 ∷ 3 ∷ 4 ∷ 6 ∷ []
 
-refuses : (s : State) (t : Token) → OneOf (others s) (Declared.tagOf T.the-type t) → Refuse ≡ stepped s t
+refuses : (s : State) (t : Token) → OneOf (others s) (Declared.tagOf T.the-type t) → Refuse ≡ tokenMoves s t
 refuses =
     by-step (λ s t m. OneOf (others s) (Declared.tagOf T.the-type t) → Refuse ≡ m) (λ s t h. refl)
     (λ k h. absurd (miss (others Word) 0 tt h)) (λ k h. absurd (miss (others Word) 1 tt h)) (λ h. absurd (miss (others Word) 2 tt h))
     (λ k g h. absurd (miss (others (Address k)) 3 tt h)) (λ k b h. absurd (miss (others (Barrier k)) 3 tt h))
     (λ k b n h. absurd (miss (others (Count k b)) 3 tt h)) (λ h. absurd (miss (others Close) 4 tt h)) (λ h. absurd (miss (others Part) 5 tt h))
 
-pub refused : (s s′ : State) (t : Token) → s ≡ s′ → OneOf (others s′) (Declared.tagOf T.the-type t) → Refuse ≡ stepped s t
+pub refused : (s s′ : State) (t : Token) → s ≡ s′ → OneOf (others s′) (Declared.tagOf T.the-type t) → Refuse ≡ tokenMoves s t
 refused s s′ t e h = rw e (refuses s′ t h)
 
-pub no-end : (s : State) → OneOf (0 ∷ 1 ∷ 2 ∷ 3 ∷ 4 ∷ []) (Declared.tagOf S.the-type s) → false ≡ ended s
+pub no-end : (s : State) → OneOf (0 ∷ 1 ∷ 2 ∷ 3 ∷ 4 ∷ []) (Declared.tagOf S.the-type s) → false ≡ mayEnd s
 no-end Word h = refl
 no-end (Address k) h = refl
 no-end (Barrier k) h = refl

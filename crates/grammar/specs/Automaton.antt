@@ -49,22 +49,22 @@ atPart Semi = Refuse
 atPart Bars = On Word
 atPart Misfit = Refuse
 
-unfoldable pub stepped : State → Token → Moved
-stepped Word t = atWord t
-stepped (Address k) t = atNumber (λ g. Row k g 0) t
-stepped (Barrier k) t = atNumber (λ b. On (Count k b)) t
-stepped (Count k b) t = atNumber (λ n. Row k b n) t
-stepped Close t = atClose t
-stepped Part t = atPart t
+unfoldable pub tokenMoves : State → Token → Moved
+tokenMoves Word t = atWord t
+tokenMoves (Address k) t = atNumber (λ g. Row k g 0) t
+tokenMoves (Barrier k) t = atNumber (λ b. On (Count k b)) t
+tokenMoves (Count k b) t = atNumber (λ n. Row k b n) t
+tokenMoves Close t = atClose t
+tokenMoves Part t = atPart t
 
 -- may the text end here?
-abbrev pub ended : State → Bool
-ended Word = false
-ended (Address k) = false
-ended (Barrier k) = false
-ended (Count k b) = false
-ended Close = false
-ended Part = true
+abbrev pub mayEnd : State → Bool
+mayEnd Word = false
+mayEnd (Address k) = false
+mayEnd (Barrier k) = false
+mayEnd (Count k b) = false
+mayEnd Close = false
+mayEnd Part = true
 
 -- what is expected after a row is `;`, and after a thread `||` or the end
 abbrev pub move : Moved → Move State
@@ -73,5 +73,5 @@ move (On s) = on s
 move (Row k n c) = rowDone (row k n c) Close
 move Thread = threadDone Part
 
-abbrev pub next : State → Token → Move State
-next s t = move (stepped s t)
+abbrev pub nextMove : State → Token → Move State
+nextMove s t = move (tokenMoves s t)

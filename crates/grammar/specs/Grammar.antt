@@ -30,38 +30,38 @@ behind [] = []
 behind (t ∷ ts) = Bars ∷ (threadTokens t ++ behind ts)
 
 -- a program: its first thread, and the others
-pub record Program : Type 0 where
+pub record Listing : Type 0 where
   pub first : List Command
   pub others : List (List Command)
 
-abbrev pub programTokens : Program → List Token
-programTokens x = threadTokens (x .first) ++ behind (x .others)
+abbrev pub listingTokens : Listing → List Token
+listingTokens x = threadTokens (x .first) ++ behind (x .others)
 
 -- the tokens of a program
 abbrev pub Whole : List Token → Type 0
-Whole ts = (x : Program) × (ts ≡ programTokens x)
+Whole ts = (x : Listing) × (ts ≡ listingTokens x)
 
 -- a text denotes a program
 abbrev pub Spells : List ℕ → List Token → Type 0
 Spells = S.Spells Spelling extends
 
-abbrev pub Denotes : List ℕ → Program → Type 0
-Denotes text x = Spells text (programTokens x)
+abbrev pub Denotes : List ℕ → Listing → Type 0
+Denotes text x = Spells text (listingTokens x)
 
 -- the program's two tables: a row a command, in order, and a length a thread
 abbrev pub rowOf : Command → Row
 rowOf (access k g) = row k g 0
 rowOf (signal k b n) = row k b n
 
-unfoldable pub joined : List (List Command) → List Command
-joined [] = []
-joined (t ∷ ts) = t ++ joined ts
+unfoldable pub allCommands : List (List Command) → List Command
+allCommands [] = []
+allCommands (t ∷ ts) = t ++ allCommands ts
 
-abbrev pub threads : Program → List (List Command)
+abbrev pub threads : Listing → List (List Command)
 threads x = x .first ∷ x .others
 
-abbrev pub programRows : Program → List Row
-programRows x = map rowOf (joined (threads x))
+abbrev pub listingRows : Listing → List Row
+listingRows x = map rowOf (allCommands (threads x))
 
-abbrev pub programLengths : Program → List ℕ
-programLengths x = map (λ (t : List Command). length t) (threads x)
+abbrev pub listingLengths : Listing → List ℕ
+listingLengths x = map (λ (t : List Command). length t) (threads x)

@@ -6,7 +6,7 @@ use lib.Dec.{eqb}
 use lib.ListN.{length, getD, take, drop}
 use Rattle.tables.specs.Rows.{read, write, arrive, sync}
 use Rattle.spelling.specs.Bytes.{is, letter, digit, run, blanks, skip}
-use Rattle.spelling.specs.Words.{alike}
+use Rattle.spelling.specs.Words.{sameBytes}
 use Rattle.spelling.specs.Numbers.{numeralOf}
 use Rattle.spelling.specs.Tokens as T
 use Rattle.spelling.specs.declared.number.Numeral.{Numeral}
@@ -21,9 +21,9 @@ use Rattle.grammar.specs.Spelling.{readWord, writeWord, arriveWord, sync
 -- the token of a run of letters, of a run of digits, and of a list that begins with neither
 unfoldable pub wordOf : List ℕ → Token
 wordOf w =
-    cond (alike w readWord) (Access read)
-    (cond (alike w writeWord) (Access write)
-    (cond (alike w arriveWord) (Signal arrive) (cond (alike w syncWord) (Signal sync) (cond (alike w returnWord) Return Misfit))))
+    cond (sameBytes w readWord) (Access read)
+    (cond (sameBytes w writeWord) (Access write)
+    (cond (sameBytes w arriveWord) (Signal arrive) (cond (sameBytes w syncWord) (Signal sync) (cond (sameBytes w returnWord) Return Misfit))))
 
 abbrev pub numeral : Numeral → Token
 numeral (N.Number n) = Number n

@@ -1,6 +1,6 @@
 // What the reader expects next, and what a token does.
 ghost use mathlib.Core.Path.{_≡_};
-ghost use Rattle.grammar.specs.Automaton.{stepped, ended};
+ghost use Rattle.grammar.specs.Automaton.{tokenMoves, mayEnd};
 use crate::tokens::Token;
 
 pub enum State {
@@ -27,7 +27,7 @@ pub enum Moved {
 }
 
 pub fn step(state: State, token: Token) -> Moved
-    ensures { λ r. ⌜ r ≡ stepped state token ⌝ }
+    ensures { λ r. ⌜ r ≡ tokenMoves state token ⌝ }
 {
     match state {
         State::Word => match token {
@@ -61,7 +61,7 @@ pub fn step(state: State, token: Token) -> Moved
 
 // May the text end here?
 pub fn ends(state: State) -> bool
-    ensures { λ r. ⌜ r ≡ ended state ⌝ }
+    ensures { λ r. ⌜ r ≡ mayEnd state ⌝ }
 {
     match state {
         State::Part => true,

@@ -17,7 +17,7 @@ use Rattle.grammar.specs.declared.tokens.Met.the-variants as M
 use Rattle.grammar.specs.declared.automaton.State.{State}
 use Rattle.grammar.specs.declared.automaton.Moved.{Moved}
 use Rattle.grammar.specs.Tokens.{tokenOf, sizeOf, tokenAt}
-use Rattle.grammar.specs.Automaton.{stepped, ended, move, next}
+use Rattle.grammar.specs.Automaton.{tokenMoves, mayEnd, move, nextMove}
 use Rattle.notation.specs.Reading.{judgedBy}
 use Rattle.grammar.proofs.Lexes.{pos, most}
 
@@ -42,7 +42,7 @@ module _ (text : List ℕ) where
   startsFrom at = T.starts sizeOf (drop at text) at
 
   abbrev pub foundFrom : ℕ → State → ℕ → Outcome
-  foundFrom at s n = found next ended (tokensFrom at) s n
+  foundFrom at s n = found nextMove mayEnd (tokensFrom at) s n
 
   module _ (at : ℕ) (l : at ≤ length text) where
     abbrev s : List ℕ
@@ -81,11 +81,11 @@ module _ (text : List ℕ) where
         }
 
     -- what is found there
-    pub found-end : {from : ℕ} → Ends from → (st : State) (n : ℕ) → foundFrom at st n ≡ outcome [] [] (cond (ended st) none (some 0))
+    pub found-end : {from : ℕ} → Ends from → (st : State) (n : ℕ) → foundFrom at st n ≡ outcome [] [] (cond (mayEnd st) none (some 0))
     unfolding found
     found-end E st n = rw (E .tokens)
 
-    pub found-token : {t : Token} {from nxt : ℕ} → Meets t from nxt → (st : State) (n : ℕ) (m : Moved) → stepped st t ≡ m
+    pub found-token : {t : Token} {from nxt : ℕ} → Meets t from nxt → (st : State) (n : ℕ) (m : Moved) → tokenMoves st t ≡ m
         → foundFrom at st n ≡ moved (move m) n (foundFrom nxt)
     unfolding found
     found-token X st n m e = rw (X .tokens, e)

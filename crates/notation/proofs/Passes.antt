@@ -21,7 +21,7 @@ use Rattle.grammar.specs.declared.automaton.Moved.the-variants as Do
 use Rattle.notation.specs.declared.scan.Judged.{Judged}
 use Rattle.notation.specs.declared.scan.Judged.the-variants.{Refused, Passed}
 use Rattle.grammar.specs.Tokens.{tokenAt}
-use Rattle.grammar.specs.Automaton.{stepped, ended, move}
+use Rattle.grammar.specs.Automaton.{tokenMoves, mayEnd, move}
 use Rattle.notation.specs.Reading.{readOf, rowNumbers, threadLengths, judgedBy, judgedOf, Rooms}
 use Rattle.notation.proofs.Along.{startsFrom, foundFrom, met-end, met-token, found-end, found-token, judged-further}
 
@@ -44,22 +44,22 @@ judging-start text =
 
 module _ {text : List ℕ} {at : ℕ} {s : State} {m t : ℕ} (J : Judging text at s m t) where
   module _ {from : ℕ} (e : tokenAt text at ≡ M.End from) where
-    ends : judgement [] (length text) m t (outcome [] [] (cond (ended s) none (some 0))) ≡ judgedOf text
+    ends : judgement [] (length text) m t (outcome [] [] (cond (mayEnd s) none (some 0))) ≡ judgedOf text
     ends =
         let E = met-end text at (J .inside) from e in
         rw (E .starts, found-end text at (J .inside) E s (J .n)) at (J .same)
 
-    pub judging-passed : ended s ≡ true → Passed m t ≡ judgedOf text
+    pub judging-passed : mayEnd s ≡ true → Passed m t ≡ judgedOf text
     judging-passed q =
         let x : m + 0 ≡ m = omega arith in
         let y : t + 0 ≡ t = omega arith in
         rw (q, x, y) at ends
 
-    pub judging-short : ended s ≡ false → Refused from ≡ judgedOf text
+    pub judging-short : mayEnd s ≡ false → Refused from ≡ judgedOf text
     judging-short q = ap Refused (met-end text at (J .inside) from e .place) ∙ rw q at ends
 
   module _ {tok : Token} {from nxt : ℕ} (e : tokenAt text at ≡ M.Token tok from nxt) where
-    goes : (v : Moved) → stepped s tok ≡ v
+    goes : (v : Moved) → tokenMoves s tok ≡ v
         → judgement (from ∷ startsFrom text nxt) (length text) m t (moved (move v) (J .n) (foundFrom text nxt)) ≡ judgedOf text
     goes v q =
         let X = met-token text at (J .inside) tok from nxt e in
@@ -68,10 +68,10 @@ module _ {text : List ℕ} {at : ℕ} {s : State} {m t : ℕ} (J : Judging text 
     pub judging-further : (at < nxt) × (nxt ≤ length text) × (at < length text)
     judging-further = met-token text at (J .inside) tok from nxt e .further
 
-    pub judging-refused : stepped s tok ≡ Do.Refuse → Refused from ≡ judgedOf text
+    pub judging-refused : tokenMoves s tok ≡ Do.Refuse → Refused from ≡ judgedOf text
     judging-refused q = goes Do.Refuse q
 
-    pub judging-on : {u : State} → stepped s tok ≡ Do.On u → Judging text nxt u m t
+    pub judging-on : {u : State} → tokenMoves s tok ≡ Do.On u → Judging text nxt u m t
     judging-on {u} q =
         let h = judging-further in
         record {
@@ -81,7 +81,7 @@ module _ {text : List ℕ} {at : ℕ} {s : State} {m t : ℕ} (J : Judging text 
           same = sym (judged-further from (startsFrom text nxt) (length text) _ _ (foundFrom text nxt u (J .n) .stop)) ∙ goes (Do.On u) q;
         }
 
-    pub judging-row : {k a c : ℕ} → stepped s tok ≡ Do.Row k a c → Judging text nxt Close (m + 1) t
+    pub judging-row : {k a c : ℕ} → tokenMoves s tok ≡ Do.Row k a c → Judging text nxt Close (m + 1) t
     judging-row {k} {a} {c} q =
         let h = judging-further in
         let o = foundFrom text nxt Close (suc (J .n)) in
@@ -93,7 +93,7 @@ module _ {text : List ℕ} {at : ℕ} {s : State} {m t : ℕ} (J : Judging text 
           same = rw z (sym (judged-further from (startsFrom text nxt) (length text) _ _ (o .stop)) ∙ goes (Do.Row k a c) q);
         }
 
-    pub judging-thread : stepped s tok ≡ Do.Thread → Judging text nxt Part m (t + 1)
+    pub judging-thread : tokenMoves s tok ≡ Do.Thread → Judging text nxt Part m (t + 1)
     judging-thread q =
         let h = judging-further in
         let o = foundFrom text nxt Part 0 in
@@ -138,16 +138,16 @@ module _ {text was was′ now now′ : List ℕ} {at : ℕ} {s : State} {i j n :
       done (ap (λ (o : Outcome). o .rows) q) (ap (λ (o : Outcome). o .lengths) q)
 
   module _ {tok : Token} {from nxt : ℕ} (e : tokenAt text at ≡ M.Token tok from nxt) where
-    goes-to : (v : Moved) → stepped s tok ≡ v → foundFrom text at s n ≡ moved (move v) n (foundFrom text nxt)
+    goes-to : (v : Moved) → tokenMoves s tok ≡ v → foundFrom text at s n ≡ moved (move v) n (foundFrom text nxt)
     goes-to v q = found-token text at (W .inside) (met-token text at (W .inside) tok from nxt e) s n v q
 
     pub writing-further : (at < nxt) × (nxt ≤ length text) × (at < length text)
     writing-further = met-token text at (W .inside) tok from nxt e .further
 
-    pub writing-refused : stepped s tok ≡ Do.Refuse → (now ≡ over (rowNumbers text) was) × (now′ ≡ over (threadLengths text) was′)
+    pub writing-refused : tokenMoves s tok ≡ Do.Refuse → (now ≡ over (rowNumbers text) was) × (now′ ≡ over (threadLengths text) was′)
     writing-refused q = let g = goes-to Do.Refuse q in done (ap (λ (o : Outcome). o .rows) g) (ap (λ (o : Outcome). o .lengths) g)
 
-    pub writing-on : {u : State} → stepped s tok ≡ Do.On u → Writing text was was′ now now′ nxt u i j n
+    pub writing-on : {u : State} → tokenMoves s tok ≡ Do.On u → Writing text was was′ now now′ nxt u i j n
     writing-on {u} q =
         let g = goes-to (Do.On u) q in
         record {
@@ -157,7 +157,7 @@ module _ {text was was′ now now′ : List ℕ} {at : ℕ} {s : State} {i j n :
           few = W .few;
         }
 
-    module _ {k a c : ℕ} (q : stepped s tok ≡ Do.Row k a c) where
+    module _ {k a c : ℕ} (q : tokenMoves s tok ≡ Do.Row k a c) where
       abbrev after : List ℕ
       after = flat (foundFrom text nxt Close (suc n) .rows)
 
@@ -181,7 +181,7 @@ module _ {text was was′ now now′ : List ℕ} {at : ℕ} {s : State} {i j n :
             few = (omega (arith, W .few .0), W .few .1, W .few .2);
           })
 
-    module _ (q : stepped s tok ≡ Do.Thread) where
+    module _ (q : tokenMoves s tok ≡ Do.Thread) where
       thread-left : Filling (threadLengths text) (n ∷ foundFrom text nxt Part 0 .lengths) was′ now′ j
       thread-left = filling-left _ (ap (λ (o : Outcome). o .lengths) (goes-to Do.Thread q)) (W .lens)
 

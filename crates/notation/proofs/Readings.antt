@@ -22,34 +22,34 @@ use Rattle.notation.specs.declared.scan.Judged.the-variants.{Refused, Pa
 use Rattle.notation.specs.declared.reading.Reading.{Reading}
 use Rattle.notation.specs.declared.reading.Reading.the-variants.{Unfit, Over, Accepted}
 use Rattle.grammar.specs.Grammar as G
-use Rattle.grammar.specs.Grammar.{Program, Denotes, Spells, rowOf, joined, threads, programRows, programLengths}
-use Rattle.grammar.specs.Automaton.{next, ended}
+use Rattle.grammar.specs.Grammar.{Listing, Denotes, Spells, rowOf, allCommands, threads, listingRows, listingLengths}
+use Rattle.grammar.specs.Automaton.{nextMove, mayEnd}
 use Rattle.notation.specs.Reading.{mostBytes, readOf, rowNumbers, threadLengths, judgedBy, judgedOf, answered, tooMany, answerOf, reading, written, Rooms}
 use Rattle.grammar.specs.Tokens.{starts, sizeOf}
-use Rattle.notation.specs.Promise.{Within, Holds, RefusedAt, ByGrammar, Read}
+use Rattle.notation.specs.Promise.{Within, GivesTables, RefusedAt, ByGrammar, Read}
 use Rattle.grammar.proofs.Lexes.{pos, most}
-use Rattle.grammar.proofs.Programs.{program-found, program-one}
+use Rattle.grammar.proofs.Listings.{listing-found, listing-one}
 use Rattle.grammar.proofs.Grammars.{lexer, grammar}
 use Rattle.notation.proofs.Passes.{flat-long}
 
 -- a text that denotes a program: what is found in it are the program's tables
-pub denoted-found : (text : List ℕ) (x : Program) → Denotes text x → readOf text ≡ outcome (programRows x) (programLengths x) none
-denoted-found text x d = ap (λ (ts : List Token). found next ended ts Word 0) (spelt-tokens lexer d) ∙ program-found x
+pub denoted-found : (text : List ℕ) (x : Listing) → Denotes text x → readOf text ≡ outcome (listingRows x) (listingLengths x) none
+denoted-found text x d = ap (λ (ts : List Token). found nextMove mayEnd ts Word 0) (spelt-tokens lexer d) ∙ listing-found x
 
-many-rows : (x : Program) → length (programRows x) ≡ length (joined (threads x))
-many-rows x = length-map (joined (threads x)) rowOf
+many-rows : (x : Listing) → length (listingRows x) ≡ length (allCommands (threads x))
+many-rows x = length-map (allCommands (threads x)) rowOf
 
-many-lengths : (x : Program) → length (programLengths x) ≡ length (threads x)
+many-lengths : (x : Listing) → length (listingLengths x) ≡ length (threads x)
 many-lengths x = length-map (threads x) (λ (t : List G.Command). length t)
 
-denoted-judged : (text : List ℕ) (x : Program) → Denotes text x → judgedOf text ≡ Passed (length (joined (threads x))) (length (threads x))
+denoted-judged : (text : List ℕ) (x : Listing) → Denotes text x → judgedOf text ≡ Passed (length (allCommands (threads x))) (length (threads x))
 unfolding judgedOf
 denoted-judged text x d = rw (denoted-found text x d, many-rows x, many-lengths x)
 
 -- what a judgement says of a text
 abbrev Says : List ℕ → Judged → Type 0
 Says text (Refused p) = RefusedAt text p
-Says text (Passed m t) = (x : Program) × Denotes text x
+Says text (Passed m t) = (x : Listing) × Denotes text x
 
 says : (text : List ℕ) → Says text (judgedOf text)
 unfolding judgedOf
@@ -137,9 +137,9 @@ module _ (text : List ℕ) (c l : ℕ) where
   answer-is : (r : Reading) → answered r ≡ reading text c l → r ≡ reads
   answer-is r e = answered-one r reads (e ∙ sym answered-reads)
 
-  module _ (x : Program) where
+  module _ (x : Listing) where
     abbrev FewOf : Type 0
-    FewOf = Few (length (joined (threads x))) (length (threads x)) c l
+    FewOf = Few (length (allCommands (threads x))) (length (threads x)) c l
 
     within : length text ≤ mostBytes → FewOf → Within text c l x
     within h f = record { bytes = h; few-rows = f .0; few-threads = f .1; room = f .2; places = f .3 }
@@ -147,7 +147,7 @@ module _ (text : List ℕ) (c l : ℕ) where
     within-few : Within text c l x → FewOf
     within-few w = (w .few-rows, w .few-threads, w .room, w .places)
 
-    pub denoted-reads : Denotes text x → Within text c l x → reads ≡ Accepted (length (joined (threads x))) (length (threads x))
+    pub denoted-reads : Denotes text x → Within text c l x → reads ≡ Accepted (length (allCommands (threads x))) (length (threads x))
     denoted-reads d w = rw (le-ltb mostBytes (length text) (w .bytes), denoted-judged text x d, few-enough _ _ c l (within-few w))
 
 -- a place where a text is refused stands in it, or at its end
@@ -159,20 +159,20 @@ refused-inside text p k =
 -- what each answer means
 abbrev pub Stands : List ℕ → ℕ → ℕ → Reading → Type 0
 Stands text c l (Unfit p) = (length text ≤ mostBytes) × (p ≤ length text) × RefusedAt text p
-Stands text c l Over = (mostBytes < length text) ⊎ ((x : Program) × Denotes text x × ¬ Within text c l x)
-Stands text c l (Accepted m t) = (x : Program) × Denotes text x × Within text c l x
+Stands text c l Over = (mostBytes < length text) ⊎ ((x : Listing) × Denotes text x × ¬ Within text c l x)
+Stands text c l (Accepted m t) = (x : Listing) × Denotes text x × Within text c l x
 
 module _ (text : List ℕ) (c l : ℕ) where
-  means-denoted : (x : Program) → Denotes text x → length text ≤ mostBytes → (b : Bool) → tooMany (length (joined (threads x))) (length (threads x)) c l ≡ b
-      → Stands text c l (cond b Over (Accepted (length (joined (threads x))) (length (threads x))))
+  means-denoted : (x : Listing) → Denotes text x → length text ≤ mostBytes → (b : Bool) → tooMany (length (allCommands (threads x))) (length (threads x)) c l ≡ b
+      → Stands text c l (cond b Over (Accepted (length (allCommands (threads x))) (length (threads x))))
   means-denoted x d h true e = inr (x, d, λ w. true≢false (sym e ∙ few-enough _ _ c l (within-few text c l x w)))
   means-denoted x d h false e = (x, d, within text c l x h (few _ _ c l e))
 
   means-limited : (j : Judged) → judgedOf text ≡ j → Says text j → length text ≤ mostBytes → Stands text c l (limited j c l)
   means-limited (Refused p) e k h = (h, refused-inside text p k, k)
   means-limited (Passed m t) e (x, d) h =
-      let q : Passed (length (joined (threads x))) (length (threads x)) ≡ Passed m t = sym (denoted-judged text x d) ∙ e in
-      subst (λ (j : Judged). Stands text c l (limited j c l)) q (means-denoted x d h (tooMany (length (joined (threads x))) (length (threads x)) c l) refl)
+      let q : Passed (length (allCommands (threads x))) (length (threads x)) ≡ Passed m t = sym (denoted-judged text x d) ∙ e in
+      subst (λ (j : Judged). Stands text c l (limited j c l)) q (means-denoted x d h (tooMany (length (allCommands (threads x))) (length (threads x)) c l) refl)
 
   means : (b : Bool) → ltb mostBytes (length text) ≡ b → Stands text c l (cond b Over (limited (judgedOf text) c l))
   means true e = inl (ltb-true mostBytes (length text) e)
@@ -201,9 +201,9 @@ module _ (text commands lengths commands′ lengths′ : List ℕ) (r : Reading)
   short h = answer-is text c l r e ∙ rw (le-ltb mostBytes (length text) h)
 
   module _ (rows : commands′ ≡ written r (rowNumbers text) commands) (lens : lengths′ ≡ written r (threadLengths text) lengths) where
-    accepts : (x : Program) → Denotes text x → Within text c l x → Holds commands lengths commands′ lengths′ r x
+    accepts : (x : Listing) → Denotes text x → Within text c l x → GivesTables commands lengths commands′ lengths′ r x
     accepts x d w =
-        let q : r ≡ Accepted (length (joined (threads x))) (length (threads x)) = answer-is text c l r e ∙ denoted-reads text c l x d w in
+        let q : r ≡ Accepted (length (allCommands (threads x))) (length (threads x)) = answer-is text c l r e ∙ denoted-reads text c l x d w in
         record {
           many = q;
           rows = rows ∙ ap (λ (z : Reading). written z (rowNumbers text) commands) q ∙ ap (λ (o : Outcome). over (flat (o .rows)) commands) (denoted-found text x d);
@@ -215,7 +215,7 @@ module _ (text commands lengths commands′ lengths′ : List ℕ) (r : Reading)
         record {
           accepts = accepts;
           accepted = λ m t q. subst (Stands text c l) q meaning;
-          one = λ x y d f. program-one x y (sym (spelt-tokens lexer d) ∙ spelt-tokens lexer f);
+          one = λ x y d f. listing-one x y (sym (spelt-tokens lexer d) ∙ spelt-tokens lexer f);
           refuses = λ p q. subst (Stands text c l) q meaning;
           refused = λ p h k. short h ∙ rw (refused-judged text p k);
           too-much = λ q. subst (Stands text c l) q meaning;

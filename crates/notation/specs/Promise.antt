@@ -10,23 +10,23 @@ use Rattle.spelling.specs.Refusal as R
 use Rattle.spelling.specs.Over.{over}
 use Rattle.notation.specs.declared.reading.Reading.{Reading}
 use Rattle.notation.specs.declared.reading.Reading.the-variants.{Unfit, Over, Accepted}
-use Rattle.grammar.specs.Grammar.{Program, Denotes, Spells, Whole, joined, threads, programRows, programLengths}
+use Rattle.grammar.specs.Grammar.{Listing, Denotes, Spells, Whole, allCommands, threads, listingRows, listingLengths}
 use Rattle.grammar.specs.Tokens.{tokens, starts}
 use Rattle.notation.specs.Reading.{mostBytes, rowNumbers, threadLengths, answered, reading, written}
 
 -- a program within the limits of a reading
-pub record Within (text : List ℕ) (c l : ℕ) (x : Program) : Type 0 where
+pub record Within (text : List ℕ) (c l : ℕ) (x : Listing) : Type 0 where
   pub bytes : length text ≤ mostBytes
-  pub few-rows : length (joined (threads x)) ≤ mostRows
+  pub few-rows : length (allCommands (threads x)) ≤ mostRows
   pub few-threads : length (threads x) ≤ mostThreads
-  pub room : length (joined (threads x)) * 3 ≤ c
+  pub room : length (allCommands (threads x)) * 3 ≤ c
   pub places : length (threads x) ≤ l
 
 -- the reading is that program's two tables, and how many commands and threads they have
-pub record Holds (commands lengths commands′ lengths′ : List ℕ) (r : Reading) (x : Program) : Type 0 where
-  pub many : r ≡ Accepted (length (joined (threads x))) (length (threads x))
-  pub rows : commands′ ≡ over (flat (programRows x)) commands
-  pub lens : lengths′ ≡ over (programLengths x) lengths
+pub record GivesTables (commands lengths commands′ lengths′ : List ℕ) (r : Reading) (x : Listing) : Type 0 where
+  pub many : r ≡ Accepted (length (allCommands (threads x))) (length (threads x))
+  pub rows : commands′ ≡ over (flat (listingRows x)) commands
+  pub lens : lengths′ ≡ over (listingLengths x) lengths
 
 abbrev pub RefusedAt : List ℕ → ℕ → Type 0
 RefusedAt text p = R.Refused Spells Whole text (tokens text) (starts text) p
@@ -34,17 +34,17 @@ RefusedAt text p = R.Refused Spells Whole text (tokens text) (starts text) p
 -- The promise by the grammar and the tokens of the text, without the automaton.
 pub record ByGrammar (text commands lengths commands′ lengths′ : List ℕ) (r : Reading) : Type 0 where
   -- a text that denotes a program within the limits is read as that program
-  pub accepts : (x : Program) → Denotes text x → Within text (length commands) (length lengths) x → Holds commands lengths commands′ lengths′ r x
+  pub accepts : (x : Listing) → Denotes text x → Within text (length commands) (length lengths) x → GivesTables commands lengths commands′ lengths′ r x
   -- what is accepted denotes one
-  pub accepted : (m t : ℕ) → r ≡ Accepted m t → (x : Program) × Denotes text x × Within text (length commands) (length lengths) x
+  pub accepted : (m t : ℕ) → r ≡ Accepted m t → (x : Listing) × Denotes text x × Within text (length commands) (length lengths) x
   -- no text denotes two
-  pub one : (x y : Program) → Denotes text x → Denotes text y → x ≡ y
+  pub one : (x y : Listing) → Denotes text x → Denotes text y → x ≡ y
   -- 12 exactly at the place where a text that is not too long is refused
   pub refuses : (p : ℕ) → r ≡ Unfit p → (length text ≤ mostBytes) × (p ≤ length text) × RefusedAt text p
   pub refused : (p : ℕ) → length text ≤ mostBytes → RefusedAt text p → r ≡ Unfit p
   -- 13 for a text that is too long, or denotes a program that is not within the limits
   pub too-much : r ≡ Over
-      → (mostBytes < length text) ⊎ ((x : Program) × Denotes text x × ¬ Within text (length commands) (length lengths) x)
+      → (mostBytes < length text) ⊎ ((x : Listing) × Denotes text x × ¬ Within text (length commands) (length lengths) x)
   -- both tables are untouched by 12 and 13
   pub untouched : ((m t : ℕ) → ¬ (r ≡ Accepted m t)) → (commands′ ≡ commands) × (lengths′ ≡ lengths)
 

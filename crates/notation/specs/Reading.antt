@@ -16,7 +16,7 @@ use Rattle.notation.specs.declared.scan.Judged.the-variants.{Refused, Pa
 use Rattle.notation.specs.declared.reading.Reading.{Reading}
 use Rattle.notation.specs.declared.reading.Reading.the-variants.{Unfit, Over, Accepted}
 use Rattle.grammar.specs.Tokens.{tokens, starts}
-use Rattle.grammar.specs.Automaton.{next, ended}
+use Rattle.grammar.specs.Automaton.{nextMove, mayEnd}
 
 -- a text has at most so many bytes
 unfoldable pub mostBytes : ℕ
@@ -24,7 +24,7 @@ mostBytes = 32768
 
 -- what is found in a text
 abbrev pub readOf : List ℕ → Outcome
-readOf text = found next ended (tokens text) Word 0
+readOf text = found nextMove mayEnd (tokens text) Word 0
 
 abbrev pub rowNumbers : List ℕ → List ℕ
 rowNumbers text = flat (readOf text .rows)

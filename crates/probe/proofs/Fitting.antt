@@ -15,7 +15,7 @@ use Rattle.tables.specs.Verdicts.{tell, numbered}
 use Rattle.tables.specs.declared.verdict.Told.{Told}
 use Rattle.tables.proofs.Rules.{passes-zero}
 use Rattle.relation.proofs.Truth.{split}
-use Rattle.grammar.specs.Grammar.{joined, threads}
+use Rattle.grammar.specs.Grammar.{allCommands, threads}
 use Rattle.notation.specs.Reading.{mostBytes, answered, restAt}
 use Rattle.notation.specs.Promise.{Read}
 use Rattle.notation.specs.declared.reading.Reading.{Reading}
@@ -112,7 +112,7 @@ module _ {text commands lengths commands′ lengths′ : List ℕ} where
   reading-counted (Accepted m t) R =
       let (x, d, w) = R .by-grammar .accepted m t refl in
       let e = R .by-grammar .accepts x d w .many in
-      let f : m ≡ length (joined (threads x)) = cc in
+      let f : m ≡ length (allCommands (threads x)) = cc in
       let g : t ≡ length (threads x) = cc in
       record { place = omega arith; also = omega arith; third = omega (arith, w .few-rows); fourth = omega (arith, w .few-threads) }
 

@@ -4,7 +4,7 @@ use mathlib.Core.Bool.{Bool}
 use mathlib.Core.List.{List}
 use Prim.Native.Nat.{ℕ}
 use Rattle.spelling.specs.Bytes.{classOf, is, run}
-use Rattle.spelling.specs.Words.{alike}
+use Rattle.spelling.specs.Words.{sameBytes}
 use Rattle.spelling.specs.Numbers.{numeralOf}
 use Rattle.spelling.specs.declared.number.Numeral.{Numeral}
 
@@ -14,7 +14,7 @@ class-of-one byte e f = e ∙ sym f
 pub run-of-one : (bytes : List ℕ) (class : ℕ) {r s : ℕ} → r ≡ run (is class) bytes → s ≡ run (is class) bytes → r ≡ s
 run-of-one bytes class e f = e ∙ sym f
 
-pub same-one : (bytes word : List ℕ) {r s : Bool} → r ≡ alike bytes word → s ≡ alike bytes word → r ≡ s
+pub same-one : (bytes word : List ℕ) {r s : Bool} → r ≡ sameBytes bytes word → s ≡ sameBytes bytes word → r ≡ s
 same-one bytes word e f = e ∙ sym f
 
 pub read-number-one : (bytes : List ℕ) {r s : Numeral} → r ≡ numeralOf bytes → s ≡ numeralOf bytes → r ≡ s

@@ -5,8 +5,8 @@ use Prim.Native.Nat.{ℕ}
 use lib.Dec.{eqb}
 
 -- are the bytes the same?
-unfoldable pub alike : List ℕ → List ℕ → Bool
-alike [] [] = true
-alike [] (c ∷ w) = false
-alike (b ∷ s) [] = false
-alike (b ∷ s) (c ∷ w) = eqb b c && alike s w
+unfoldable pub sameBytes : List ℕ → List ℕ → Bool
+sameBytes [] [] = true
+sameBytes [] (c ∷ w) = false
+sameBytes (b ∷ s) [] = false
+sameBytes (b ∷ s) (c ∷ w) = eqb b c && sameBytes s w

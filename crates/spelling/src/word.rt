@@ -1,10 +1,10 @@
 // Words.
 ghost use mathlib.Core.Path.{_≡_};
-ghost use Rattle.spelling.specs.Words.{alike};
+ghost use Rattle.spelling.specs.Words.{sameBytes};
 
 // Are the bytes those of the word?
 pub fn same(bytes: &[u8], word: &[u8]) -> bool
-    ensures { λ r. ⌜ r ≡ alike (now (bytes .entry)) (now (word .entry)) ⌝ }
+    ensures { λ r. ⌜ r ≡ sameBytes (now (bytes .entry)) (now (word .entry)) ⌝ }
 {
     if bytes.len() != word.len() {
         return false;

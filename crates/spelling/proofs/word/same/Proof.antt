@@ -4,13 +4,13 @@ use Prim.Native.Nat.{_-_}
 use native.Mathlib.Omega.{arith}
 use lib.ListN.{length, drop}
 use borrow.Author.Needs.{needs}
-use Rattle.spelling.specs.Words.{alike}
+use Rattle.spelling.specs.Words.{sameBytes}
 use Rattle.spelling.proofs.Words.{alike-long, alike-on, alike-off, alike-out}
 use Rattle.spelling.proofs.word.same.Statement.{statement}
 use Rattle.spelling.proofs.word.same.Tie as tie
 
 abbrev Inv-loop : tie.InvT-loop
-Inv-loop bytes word i₀ i = alike (drop i bytes) (drop i word) ≡ alike bytes word
+Inv-loop bytes word i₀ i = sameBytes (drop i bytes) (drop i word) ≡ sameBytes bytes word
 
 abbrev μ-loop : tie.MeasureT-loop
 μ-loop bytes word i₀ i = length bytes - i

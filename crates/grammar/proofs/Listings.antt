@@ -10,13 +10,13 @@ use Rattle.spelling.specs.Machine.{Row, outcome, found}
 use Rattle.grammar.specs.declared.tokens.Token.{Token}
 use Rattle.grammar.specs.declared.automaton.State.the-variants.{Word, Part}
 use Rattle.grammar.specs.Grammar as G
-use Rattle.grammar.specs.Grammar.{access, signal, threadTokens, behind, Program, programTokens, rowOf, joined, programRows, programLengths}
-use Rattle.grammar.specs.Automaton.{stepped, ended, next}
+use Rattle.grammar.specs.Grammar.{access, signal, threadTokens, behind, Listing, listingTokens, rowOf, allCommands, listingRows, listingLengths}
+use Rattle.grammar.specs.Automaton.{tokenMoves, mayEnd, nextMove}
 
 -- a thread's tokens, where what follows them is found to be rows and lengths
-thread-found : (cs : List G.Command) (ts : List Token) (n : ℕ) (rs : List Row) (ls : List ℕ) → found next ended ts Part 0 ≡ outcome rs ls none
-    → found next ended (threadTokens cs ++ ts) Word n ≡ outcome (map rowOf cs ++ rs) ((n + length cs) ∷ ls) none
-unfolding found stepped threadTokens
+thread-found : (cs : List G.Command) (ts : List Token) (n : ℕ) (rs : List Row) (ls : List ℕ) → found nextMove mayEnd ts Part 0 ≡ outcome rs ls none
+    → found nextMove mayEnd (threadTokens cs ++ ts) Word n ≡ outcome (map rowOf cs ++ rs) ((n + length cs) ∷ ls) none
+unfolding found tokenMoves threadTokens
 thread-found [] ts n rs ls e = let z : n + 0 ≡ n = omega arith in rw (e, z)
 thread-found (access k g ∷ cs) ts n rs ls e =
     let z : suc n + length cs ≡ n + suc (length cs) = omega arith in
@@ -29,19 +29,19 @@ map-append : (cs ds : List G.Command) → map rowOf (cs ++ ds) ≡ map rowOf cs 
 map-append [] ds = refl
 map-append (c ∷ cs) ds = ap (λ (l : List Row). rowOf c ∷ l) (map-append cs ds)
 
-behind-found : (us : List (List G.Command)) → found next ended (behind us) Part 0 ≡ outcome (map rowOf (joined us)) (map (λ (t : List G.Command). length t) us) none
-unfolding found stepped behind joined
+behind-found : (us : List (List G.Command)) → found nextMove mayEnd (behind us) Part 0 ≡ outcome (map rowOf (allCommands us)) (map (λ (t : List G.Command). length t) us) none
+unfolding found tokenMoves behind allCommands
 behind-found [] = refl
 behind-found (u ∷ us) =
     let z : 0 + length u ≡ length u = omega arith in
-    rw (thread-found u (behind us) 0 (map rowOf (joined us)) (map (λ (t : List G.Command). length t) us) (behind-found us), map-append u (joined us), z)
+    rw (thread-found u (behind us) 0 (map rowOf (allCommands us)) (map (λ (t : List G.Command). length t) us) (behind-found us), map-append u (allCommands us), z)
 
-pub program-found : (x : Program) → found next ended (programTokens x) Word 0 ≡ outcome (programRows x) (programLengths x) none
-unfolding joined
-program-found x =
+pub listing-found : (x : Listing) → found nextMove mayEnd (listingTokens x) Word 0 ≡ outcome (listingRows x) (listingLengths x) none
+unfolding allCommands
+listing-found x =
     let z : 0 + length (x .first) ≡ length (x .first) = omega arith in
-    thread-found (x .first) (behind (x .others)) 0 (map rowOf (joined (x .others))) (map (λ (t : List G.Command). length t) (x .others)) (behind-found (x .others))
-    ∙ rw (map-append (x .first) (joined (x .others)), z)
+    thread-found (x .first) (behind (x .others)) 0 (map rowOf (allCommands (x .others))) (map (λ (t : List G.Command). length t) (x .others)) (behind-found (x .others))
+    ∙ rw (map-append (x .first) (allCommands (x .others)), z)
 
 -- tokens that begin with a thread's begin with no other's
 thread-one : (cs ds : List G.Command) (a b : List Token) → threadTokens cs ++ a ≡ threadTokens ds ++ b → (cs ≡ ds) × (a ≡ b)
@@ -78,11 +78,11 @@ behind-one (u ∷ us) (v ∷ vs) e =
     let q : us ≡ vs = behind-one us vs (h .1) in
     cc
 
-program : List G.Command → List (List G.Command) → Program
+program : List G.Command → List (List G.Command) → Listing
 program t ts = record { first = t; others = ts }
 
-pub program-one : (x y : Program) → programTokens x ≡ programTokens y → x ≡ y
+pub listing-one : (x y : Listing) → listingTokens x ≡ listingTokens y → x ≡ y
 unfolding program
-program-one x y e =
+listing-one x y e =
     let h = thread-one (x .first) (y .first) (behind (x .others)) (behind (y .others)) e in
     ap (λ (t : List G.Command). program t (x .others)) (h .0) ∙ ap (program (y .first)) (behind-one (x .others) (y .others) (h .1))
