@@ -20,11 +20,11 @@ use Rattle.sheet.specs.declared.Pair.{Pair}
 use Rattle.desk.specs.Conclusion.{ofText}
 use Rattle.desk.specs.Report.{leastRoom, report}
 
--- the numbers of a program's command table
+-- the numbers of a listing's command table
 abbrev pub numbers : Listing → List ℕ
 numbers x = flat (listingRows x)
 
--- The text denotes the program, which is within the limits, and its rows keep the rules.
+-- The text denotes the listing, which is within the limits, and its rows keep the rules.
 pub record Reviewable (text : List ℕ) (x : Listing) : Type 0 where
   pub denotes : Denotes text x
   pub within : Within text (mostRows * 3) mostThreads x
@@ -32,7 +32,7 @@ pub record Reviewable (text : List ℕ) (x : Listing) : Type 0 where
 
 -- Demand 3, of a text and the number that it is answered with.
 pub record JudgesText (text : List ℕ) (n : ℕ) : Type 0 where
-  -- 0 or 11 exactly when every legal complete schedule of the text's program ends clean with the same generation for each command
+  -- 0 or 11 exactly when every legal complete schedule of the text's listing ends clean with the same generation for each command
   pub agreement : ((n ≡ 0) ⊎ (n ≡ 11)) ↔ ((x : Listing) × Reviewable text x × Agree (numbers x) (listingLengths x))
   -- 0 exactly when, besides, every two conflicting accesses stand in the same order in all of them
   pub order : (n ≡ 0) ↔ ((x : Listing) × Reviewable text x × Agree (numbers x) (listingLengths x) × SameOrder (numbers x) (listingLengths x))

@@ -29,7 +29,7 @@ unfoldable pub behind : List (List Command) → List Token
 behind [] = []
 behind (t ∷ ts) = Bars ∷ (threadTokens t ++ behind ts)
 
--- a program: its first thread, and the others
+-- a listing: its first thread, and the others
 pub record Listing : Type 0 where
   pub first : List Command
   pub others : List (List Command)
@@ -37,18 +37,18 @@ pub record Listing : Type 0 where
 abbrev pub listingTokens : Listing → List Token
 listingTokens x = threadTokens (x .first) ++ behind (x .others)
 
--- the tokens of a program
+-- the tokens of a listing
 abbrev pub Whole : List Token → Type 0
 Whole ts = (x : Listing) × (ts ≡ listingTokens x)
 
--- a text denotes a program
+-- a text denotes a listing
 abbrev pub Spells : List ℕ → List Token → Type 0
 Spells = S.Spells Spelling extends
 
 abbrev pub Denotes : List ℕ → Listing → Type 0
 Denotes text x = Spells text (listingTokens x)
 
--- the program's two tables: a row a command, in order, and a length a thread
+-- the listing's two tables: a row a command, in order, and a length a thread
 abbrev pub rowOf : Command → Row
 rowOf (access k g) = row k g 0
 rowOf (signal k b n) = row k b n

@@ -1,4 +1,4 @@
--- Read in this order: Spelling (the words, numbers and marks, and which bytes spell them); Grammar (which tokens write which program, which text denotes it, and its two
+-- Read in this order: Spelling (the words, numbers and marks, and which bytes spell them); Grammar (which tokens write which listing, which text denotes it, and its two
 -- tables); Tokens (the tokens of any text, and their places); Automaton (what a reader expects next, and what a token does).
 pub mod Spelling
 pub mod Grammar

@@ -14,7 +14,7 @@ use Rattle.grammar.specs.Grammar.{Listing, Denotes, Spells, Whole, allCommands,
 use Rattle.grammar.specs.Tokens.{tokens, starts}
 use Rattle.notation.specs.Reading.{mostBytes, rowNumbers, threadLengths, answered, reading, written}
 
--- a program within the limits of a reading
+-- a listing within the limits of a reading
 pub record Within (text : List ℕ) (c l : ℕ) (x : Listing) : Type 0 where
   pub bytes : length text ≤ mostBytes
   pub few-rows : length (allCommands (threads x)) ≤ mostRows
@@ -22,7 +22,7 @@ pub record Within (text : List ℕ) (c l : ℕ) (x : Listing) : Type 0 where
   pub room : length (allCommands (threads x)) * 3 ≤ c
   pub places : length (threads x) ≤ l
 
--- the reading is that program's two tables, and how many commands and threads they have
+-- the reading is that listing's two tables, and how many commands and threads they have
 pub record GivesTables (commands lengths commands′ lengths′ : List ℕ) (r : Reading) (x : Listing) : Type 0 where
   pub many : r ≡ Accepted (length (allCommands (threads x))) (length (threads x))
   pub rows : commands′ ≡ over (flat (listingRows x)) commands
@@ -33,7 +33,7 @@ RefusedAt text p = R.Refused Spells Whole text (tokens text) (starts text) p
 
 -- The promise by the grammar and the tokens of the text, without the automaton.
 pub record ByGrammar (text commands lengths commands′ lengths′ : List ℕ) (r : Reading) : Type 0 where
-  -- a text that denotes a program within the limits is read as that program
+  -- a text that denotes a listing within the limits is read as that listing
   pub accepts : (x : Listing) → Denotes text x → Within text (length commands) (length lengths) x → GivesTables commands lengths commands′ lengths′ r x
   -- what is accepted denotes one
   pub accepted : (m t : ℕ) → r ≡ Accepted m t → (x : Listing) × Denotes text x × Within text (length commands) (length lengths) x
@@ -42,7 +42,7 @@ pub record ByGrammar (text commands lengths commands′ lengths′ : List ℕ) (
   -- 12 exactly at the place where a text that is not too long is refused
   pub refuses : (p : ℕ) → r ≡ Unfit p → (length text ≤ mostBytes) × (p ≤ length text) × RefusedAt text p
   pub refused : (p : ℕ) → length text ≤ mostBytes → RefusedAt text p → r ≡ Unfit p
-  -- 13 for a text that is too long, or denotes a program that is not within the limits
+  -- 13 for a text that is too long, or denotes a listing that is not within the limits
   pub too-much : r ≡ Over
       → (mostBytes < length text) ⊎ ((x : Listing) × Denotes text x × ¬ Within text (length commands) (length lengths) x)
   -- both tables are untouched by 12 and 13
