@@ -1,4 +1,4 @@
-# Sourced by .ci/run, tests/run and bench/run at the top of the repository: what builds and runs C code over the archives. These are for x86-64; on another machine
+# Sourced by .ci/run, tests/run, tests/long and bench/run at the top of the repository: what builds and runs C code over the archives. These are for x86-64; on another machine
 # Debian's cross compiler builds, statically, and an emulator runs what it built.
 # shellcheck shell=bash disable=SC2034
 if [ "$(uname -m)" = x86_64 ]; then
@@ -20,4 +20,34 @@ install_packages() {
   fi
   apt-get update -q
   apt-get install -q -y --no-install-recommends "${missing[@]}"
+}
+
+# Makes the archives that are older than what they are made of, one after the other: two `rt staticlib` do not share target/. Says what went wrong.
+make_archives() {
+  local crate archive log
+  log=$(mktemp)
+  for crate in desk probe; do
+    archive=target/staticlib/lib$crate.a
+    [ ! -f "$archive" ] || [ -n "$(find crates.txt crates/*/src crates/*/specs crates/*/proofs -newer "$archive" -print -quit)" ] || continue
+    rt staticlib "$crate" > "$log" 2>&1 || { cat "$log" >&2; rm -f "$log"; return 1; }
+  done
+  rm -f "$log"
+}
+
+# build_compare PROGRAM: the comparison with the reference, over both archives.
+build_compare() {
+  "${cc[@]}" -std=c99 -pedantic -Wall -Wextra -Werror -O2 -o "$1" tests/compare.c tests/reference.c tests/schedules.c tests/lent.c tests/inputs.c \
+    target/staticlib/libprobe.a target/staticlib/libdesk.a
+}
+
+# compare_both PROGRAM FOLDER SEED COUNT: two processes side by side, with this seed and the next; one line with the figures of both. At a difference, what they said.
+compare_both() {
+  local program=$1 folder=$2 seed=$3 count=$4 first second ended=0
+  "${emulator[@]}" "$program" "$seed" "$count" > "$folder/first" 2> "$folder/first.said" & first=$!
+  "${emulator[@]}" "$program" "$((seed + 1))" "$count" > "$folder/second" 2> "$folder/second.said" & second=$!
+  wait "$first" || ended=1
+  wait "$second" || ended=1
+  cat "$folder/first.said" "$folder/second.said" >&2
+  awk '{ for (i = 1; i <= NF; i++) if ($i ~ /^[0-9]+$/) { sum[i] += $i; $i = sum[i] } } END { print }' <(head -n 1 "$folder/first") <(head -n 1 "$folder/second")
+  return "$ended"
 }
