@@ -37,6 +37,7 @@ static const uint32_t answers[DOORS] = {0x4fff, 0x401f, 0x7001, 0x7f89, 0x3};
 static unsigned long long seed_given, number;
 static unsigned long calls[DOORS], answered[DOORS][16], marked[MARKS], programs, schedules;
 static enum door door;
+static volatile sig_atomic_t is_called; /* the archive's code runs, not the test's */
 static struct random drawn;
 
 /* ---- what is lent, in one call */
@@ -59,11 +60,11 @@ static void fail(const char *what, long place, unsigned long found, unsigned lon
     exit(1);
 }
 
-/* Only a call touches guard pages, and no call is within the C library's printing: so the handler may print. */
+/* The fault is in the code that runs, which prints nothing: so the handler may print. */
 static void touched(int signal)
 {
-    fprintf(stderr, "compare: seed %llu, number %llu, %s: it touched what was not lent, or wrote what was lent for reading (signal %d)\n", seed_given, number,
-            doors[door], signal);
+    fprintf(stderr, "compare: seed %llu, number %llu, %s: %s (signal %d)\n", seed_given, number, doors[door],
+            is_called ? "it touched what was not lent, or wrote what was lent for reading" : "a fault of the test itself", signal);
     tell_input();
     _exit(1);
 }
@@ -132,7 +133,16 @@ static size_t at_most(size_t n, size_t most)
 
 static size_t answer_room(void)
 {
-    return below(&drawn, 100) == 0 ? below(&drawn, ANSWER) : ANSWER + (chance(&drawn, 50) ? 0 : below(&drawn, 5));
+    if (below(&drawn, 100) == 0)
+        return chance(&drawn, 50) ? ANSWER - 1 : below(&drawn, ANSWER);
+    return chance(&drawn, 50) ? ANSWER : ANSWER + below(&drawn, 5);
+}
+
+static size_t some_report_room(void)
+{
+    if (below(&drawn, 40) == 0)
+        return chance(&drawn, 50) ? REPORT - 1 : below(&drawn, REPORT);
+    return chance(&drawn, 50) ? REPORT : REPORT + below(&drawn, 100);
 }
 
 static struct tables tables_of(const struct program *program)
@@ -192,7 +202,9 @@ static uint32_t try_review(const struct tables *tables, const uint32_t *steps, s
     const uint32_t *c = numbers(&commands, tables->commands, tables->numbers), *l = numbers(&lengths, tables->lengths, tables->threads);
     const uint32_t *s = numbers(&schedule, steps, n);
     uint32_t *r = room(&relation, relation_room), *g = room(&generations, generation_room), *a = room(&answer, told);
+    is_called = 1;
     uint32_t got = probe_review(c, tables->numbers, l, tables->threads, s, n, r, relation_room, g, generation_room, a, told);
+    is_called = 0;
     if (told < ANSWER) {
         end_call(got, 14);
         return 14;
@@ -210,7 +222,9 @@ static void try_schedule(const struct tables *tables, size_t steps_room, size_t 
     begin_call(SCHEDULE);
     const uint32_t *c = numbers(&commands, tables->commands, tables->numbers), *l = numbers(&lengths, tables->lengths, tables->threads);
     uint32_t *s = room(&schedule, steps_room), *a = room(&answer, told);
+    is_called = 1;
     uint32_t got = probe_schedule(c, tables->numbers, l, tables->threads, s, steps_room, a, told);
+    is_called = 0;
     if (told < ANSWER) {
         end_call(got, 14);
         return;
@@ -243,7 +257,9 @@ static void try_read(const uint8_t *bytes, size_t length, size_t told)
     now[lent_now++] = &text;
     const uint8_t *t = lend(&text, bytes, length, 1, chance(&drawn, 50));
     uint32_t *c = room(&tables_room[0], numbers_room), *l = room(&tables_room[1], lengths_room), *a = room(&answer, told);
+    is_called = 1;
     uint32_t got = probe_read(t, length, c, numbers_room, l, lengths_room, a, told);
+    is_called = 0;
     if (told < ANSWER) {
         end_call(got, 14);
         return;
@@ -270,7 +286,9 @@ static void try_text(const uint8_t *bytes, size_t length, size_t report_room)
     now[lent_now++] = &report;
     int at_end = chance(&drawn, 50);
     uint8_t *r = lend_room(&report, report_room, 1, at_end, draw(&drawn));
+    is_called = 1;
     uint32_t got = review_text(t, length, r, report_room);
+    is_called = 0;
     size_t n = review_of_text(bytes, length, report_room, &expected, printed);
     if (n > report_room)
         fail("the length of the report", 0, n, report_room);
@@ -293,7 +311,9 @@ static void try_close(size_t rows, size_t words, uint32_t asked)
     for (size_t i = 0; enough && i < rows; i++)
         for (size_t j = 0; j < rows; j++)
             bits[i][j] = (uint8_t)(held[i * ((rows + 31) / 32) + j / 32] >> (j % 32) & 1);
+    is_called = 1;
     uint32_t got = probe_close(r, words, asked);
+    is_called = 0;
     if (enough) {
         close_under_chains(rows, bits);
         must_hold_relation(&relation, rows, bits);
@@ -361,7 +381,7 @@ static void text_case(void)
     }
     size_t n = make_text(&drawn, &program, bytes);
     try_read(bytes, n, answer_room());
-    try_text(bytes, n, below(&drawn, 40) == 0 ? below(&drawn, REPORT) : REPORT + (chance(&drawn, 50) ? 0 : below(&drawn, 100)));
+    try_text(bytes, n, some_report_room());
 }
 
 static void close_case(void)
