@@ -13,6 +13,7 @@
 #include <stdio.h>
 #include <stdlib.h>
 #include <string.h>
+#include <sys/wait.h>
 #include <time.h>
 #include <unistd.h>
 
@@ -60,6 +61,13 @@ static void fail(const char *what, long place, unsigned long found, unsigned lon
     exit(1);
 }
 
+static void fail_beside(const struct lent *lent, long place)
+{
+    fprintf(stderr, "compare: seed %llu, number %llu, %s: the byte beside %s at %ld has changed\n", seed_given, number, doors[door], lent->name, place);
+    tell_input();
+    exit(1);
+}
+
 /* The fault is in the code that runs, which prints nothing: so the handler may print. */
 static void touched(int signal)
 {
@@ -88,6 +96,21 @@ static uint32_t *room(struct lent *lent, size_t n)
     return lend_room(lent, 4 * n, 4, at_end, draw(&drawn));
 }
 
+/* What was lent holds what it must, and the bytes beside it were kept. */
+static void check_lent(struct lent *lent)
+{
+    long byte = wrong_byte(lent);
+    if (byte == NONE)
+        return;
+    if (byte < 0 || (size_t)byte >= lent->bytes)
+        fail_beside(lent, byte);
+    size_t first = (size_t)byte / lent->unit * lent->unit;
+    uint32_t found = 0, expected = 0;
+    memcpy(&found, lent->at + first, lent->unit);
+    memcpy(&expected, (uint8_t *)must_hold(lent) + first, lent->unit);
+    fail(lent->name, (long)(first / lent->unit), found, expected);
+}
+
 /* The answer is the expected one, and so is everything that was lent. */
 static void end_call(uint32_t found, uint32_t expected)
 {
@@ -96,18 +119,7 @@ static void end_call(uint32_t found, uint32_t expected)
     if (found != expected)
         fail("the answer", 0, found, expected);
     for (size_t i = 0; i < lent_now; i++) {
-        long byte = wrong_byte(now[i]);
-        if (byte != NONE) {
-            const uint8_t *held = must_hold(now[i]);
-            int within = byte >= 0 && (size_t)byte < now[i]->bytes;
-            size_t first = within ? (size_t)byte / now[i]->unit * now[i]->unit : 0;
-            uint32_t got = 0, right = 0;
-            if (within) {
-                memcpy(&got, now[i]->at + first, now[i]->unit);
-                memcpy(&right, held + first, now[i]->unit);
-            }
-            fail(now[i]->name, within ? (long)(first / now[i]->unit) : byte, got, right);
-        }
+        check_lent(now[i]);
         give_back(now[i]);
     }
 }
@@ -514,6 +526,36 @@ static void make_all(void)
     make_lent(&tables_room[1], "lengths", 4 * MOST_LENGTHS);
 }
 
+/* What a child does to the guarded pages must end it; else the test could not see such a thing of an archive. */
+static void check_guard(const char *what, long place, int is_write)
+{
+    const uint8_t *at = lend(&text, "text", 4, 1, place > 0);
+    int status = 0;
+    pid_t child = fork();
+    if (child == 0) {
+        volatile uint8_t *touch = (volatile uint8_t *)at + place;
+        signal(SIGSEGV, SIG_DFL);
+        signal(SIGBUS, SIG_DFL);
+        if (is_write)
+            *touch = 0;
+        else
+            (void)*touch;
+        _exit(0);
+    }
+    if (child < 0 || waitpid(child, &status, 0) != child || !WIFSIGNALED(status)) {
+        fprintf(stderr, "compare: the guard pages do not guard: %s\n", what);
+        exit(1);
+    }
+    give_back(&text);
+}
+
+static void check_guards(void)
+{
+    check_guard("a read after what is lent", 4, 0);
+    check_guard("a read before what is lent", -1, 0);
+    check_guard("a write to what is lent for reading", 0, 1);
+}
+
 int main(int argc, char **argv)
 {
     char *unit = "";
@@ -525,6 +567,7 @@ int main(int argc, char **argv)
     unsigned long long count = strtoull(argv[2], &unit, 10), first = argc == 4 ? strtoull(argv[3], NULL, 10) : 0;
     time_t end = *unit == 'm' ? time(NULL) + 60 * (time_t)count : 0;
     make_all();
+    check_guards();
     struct sigaction action;
     memset(&action, 0, sizeof action);
     action.sa_handler = touched;
