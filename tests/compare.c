@@ -444,13 +444,13 @@ static void try_number(void)
 {
     seed(&drawn, seed_given, number);
     uint32_t which = below(&drawn, 1000);
-    if (which < 4) {
+    if (which < 6) {
         big_program(&drawn, &program);
         tables_case(chance(&drawn, 20));
-    } else if (which < 6) {
+    } else if (which < 8) {
         big_program(&drawn, &program);
         text_case();
-    } else if (which < 16) {
+    } else if (which < 18) {
         over_program(&drawn, &program);
         text_case();
     } else if (which < 100) {
@@ -526,6 +526,14 @@ static void make_all(void)
     make_lent(&tables_room[1], "lengths", 4 * MOST_LENGTHS);
 }
 
+enum { BITTEN = 3 };
+
+static void end_child(int signal)
+{
+    (void)signal;
+    _exit(BITTEN);
+}
+
 /* What a child does to the guarded pages must end it; else the test could not see such a thing of an archive. */
 static void check_guard(const char *what, long place, int is_write)
 {
@@ -534,15 +542,15 @@ static void check_guard(const char *what, long place, int is_write)
     pid_t child = fork();
     if (child == 0) {
         volatile uint8_t *touch = (volatile uint8_t *)at + place;
-        signal(SIGSEGV, SIG_DFL);
-        signal(SIGBUS, SIG_DFL);
+        signal(SIGSEGV, end_child);
+        signal(SIGBUS, end_child);
         if (is_write)
             *touch = 0;
         else
             (void)*touch;
         _exit(0);
     }
-    if (child < 0 || waitpid(child, &status, 0) != child || !WIFSIGNALED(status)) {
+    if (child < 0 || waitpid(child, &status, 0) != child || !WIFEXITED(status) || WEXITSTATUS(status) != BITTEN) {
         fprintf(stderr, "compare: the guard pages do not guard: %s\n", what);
         exit(1);
     }
