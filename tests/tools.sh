@@ -1,4 +1,4 @@
-# Sourced by .ci/run, tests/run and bench/run at the top of the repository: what builds and runs C code over the archives. These are for x86-64; on another machine
+# Sourced by .ci/run, tests/run, tests/long and bench/run at the top of the repository: what builds and runs C code over the archives. These are for x86-64; on another machine
 # Debian's cross compiler builds, statically, and an emulator runs what it built.
 # shellcheck shell=bash disable=SC2034
 if [ "$(uname -m)" = x86_64 ]; then
@@ -20,4 +20,46 @@ install_packages() {
   fi
   apt-get update -q
   apt-get install -q -y --no-install-recommends "${missing[@]}"
+}
+
+# is_made CRATE: its archive is there and newer than all that it is made of.
+is_made() {
+  local archive=target/staticlib/lib$1.a
+  [ -f "$archive" ] && [ -z "$(find crates.txt crates/*/src crates/*/specs crates/*/proofs -newer "$archive" -print -quit)" ]
+}
+
+# Makes the archives that are missing or old. Two `rt staticlib` do not share a target/, so that of probe is made in a copy, beside the other. Says what went wrong.
+make_archives() {
+  local copy probe=0 failed=0
+  copy=$(mktemp -d)
+  if ! is_made probe; then
+    mkdir -p "$copy/target" target/staticlib
+    cp -a crates crates.txt "$copy"
+    [ ! -d target/rlib ] || cp -a target/rlib target/stamp "$copy/target"
+    (cd "$copy" && rt staticlib probe) > "$copy/probe.log" 2>&1 & probe=$!
+  fi
+  is_made desk || rt staticlib desk > "$copy/desk.log" 2>&1 || { failed=1; cat "$copy/desk.log" >&2; }
+  if [ "$probe" -ne 0 ]; then
+    if wait "$probe"; then cp "$copy/target/staticlib/libprobe.a" target/staticlib; else failed=1; cat "$copy/probe.log" >&2; fi
+  fi
+  rm -rf "$copy"
+  return "$failed"
+}
+
+# build_compare PROGRAM: the comparison with the reference, over both archives.
+build_compare() {
+  "${cc[@]}" -std=c99 -pedantic -Wall -Wextra -Werror -O2 -o "$1" tests/compare.c tests/reference.c tests/schedules.c tests/lent.c tests/inputs.c \
+    target/staticlib/libprobe.a target/staticlib/libdesk.a
+}
+
+# compare_both PROGRAM FOLDER SEED COUNT: two processes side by side, with this seed and the next; one line with the figures of both. At a difference, what they said.
+compare_both() {
+  local program=$1 folder=$2 seed=$3 count=$4 first second ended=0
+  "${emulator[@]}" "$program" "$seed" "$count" > "$folder/first" 2> "$folder/first.said" & first=$!
+  "${emulator[@]}" "$program" "$((seed + 1))" "$count" > "$folder/second" 2> "$folder/second.said" & second=$!
+  wait "$first" || ended=1
+  wait "$second" || ended=1
+  cat "$folder/first.said" "$folder/second.said" >&2
+  awk '{ for (i = 1; i <= NF; i++) if ($i ~ /^[0-9]+$/) { sum[i] += $i; $i = sum[i] } } END { print }' <(head -n 1 "$folder/first") <(head -n 1 "$folder/second")
+  return "$ended"
 }

@@ -1,0 +1,592 @@
+/*
+ * Holds the archives to the reference of document 01 (reference.c), and to demand 3 by all schedules of small programs (schedules.c).
+ *
+ *   compare SEED COUNT         COUNT numbered cases of that seed; each makes a few calls
+ *   compare SEED MINUTESm      as many cases as fit into so many minutes
+ *   compare SEED COUNT FIRST   COUNT cases from number FIRST on, to repeat a failure
+ *
+ * After each call every answer, every word of every lent room and the bytes beside it are compared. It ends with one line of figures, or with status 1 at the first
+ * difference, which it tells with the seed, the number and the input; also if some verdict, or something else that is to be tried, came up too seldom.
+ */
+#define _POSIX_C_SOURCE 200809L
+#include <signal.h>
+#include <stdio.h>
+#include <stdlib.h>
+#include <string.h>
+#include <sys/wait.h>
+#include <time.h>
+#include <unistd.h>
+
+#include "../include/desk.h"
+#include "../include/probe.h"
+#include "inputs.h"
+#include "lent.h"
+#include "schedules.h"
+
+enum { ANSWER = 36, WORDS = ROWS * ROWS / 32, OFTEN = 10 };
+enum door { REVIEW, SCHEDULE, READING, TEXTS, CLOSING, DOORS };
+enum mark { PAST_SIXTEEN, FULL_TABLE, ALL_THREADS, WRAPPED, BYTES, COMMANDS, MANY_THREADS, ROOM, MANY_ROWS, DIGIT_0, DIGIT_1, DIGIT_2, AGAIN, ORDERED, MARKS };
+
+static const char *const doors[DOORS] = {"probe_review", "probe_schedule", "probe_read", "review_text", "probe_close"};
+static const char *const marks[MARKS] = {"a sheet past sixteen pairs", "a review of over 500 rows up to 0, 10 or 11", "a review of 64 threads up to 0, 10 or 11",
+                                         "lengths that add up if the sum wraps", "13 for bytes", "13 for commands", "13 for threads", "13 for a room",
+                                         "closing of over 100 rows", "4 with digit 0", "4 with digit 1", "4 with digit 2",
+                                         "all schedules agree and a barrier is used again", "all schedules agree and a barrier orders a conflict"};
+/* The answers that each door has to give OFTEN. */
+static const uint32_t answers[DOORS] = {0x4fff, 0x401f, 0x7001, 0x7f89, 0x3};
+
+static unsigned long long seed_given, number;
+static unsigned long calls[DOORS], answered[DOORS][16], marked[MARKS], programs, schedules;
+static enum door door;
+static volatile sig_atomic_t is_called; /* the archive's code runs, not the test's */
+static struct random drawn;
+
+/* ---- what is lent, in one call */
+
+static struct lent commands, lengths, schedule, relation, generations, answer, text, report, tables_room[2];
+static struct lent *now[8];
+static size_t lent_now;
+
+static void tell_input(void)
+{
+    fprintf(stderr, "  to repeat: compare %llu 1 %llu\n", seed_given, number);
+    for (size_t i = 0; i < lent_now; i++)
+        print_lent(now[i]);
+}
+
+static void fail(const char *what, long place, unsigned long found, unsigned long expected)
+{
+    fprintf(stderr, "compare: seed %llu, number %llu, %s: %s at %ld is %lu, not %lu\n", seed_given, number, doors[door], what, place, found, expected);
+    tell_input();
+    exit(1);
+}
+
+static void fail_beside(const struct lent *lent, long place)
+{
+    fprintf(stderr, "compare: seed %llu, number %llu, %s: the byte beside %s at %ld has changed\n", seed_given, number, doors[door], lent->name, place);
+    tell_input();
+    exit(1);
+}
+
+/* The fault is in the code that runs, which prints nothing: so the handler may print. */
+static void touched(int signal)
+{
+    fprintf(stderr, "compare: seed %llu, number %llu, %s: %s (signal %d)\n", seed_given, number, doors[door],
+            is_called ? "it touched what was not lent, or wrote what was lent for reading" : "a fault of the test itself", signal);
+    tell_input();
+    _exit(1);
+}
+
+static void begin_call(enum door which)
+{
+    door = which;
+    lent_now = 0;
+}
+
+static uint32_t *numbers(struct lent *lent, const uint32_t *from, size_t n)
+{
+    now[lent_now++] = lent;
+    return lend(lent, from, 4 * n, 4, chance(&drawn, 50));
+}
+
+static uint32_t *room(struct lent *lent, size_t n)
+{
+    now[lent_now++] = lent;
+    int at_end = chance(&drawn, 50);
+    return lend_room(lent, 4 * n, 4, at_end, draw(&drawn));
+}
+
+/* What was lent holds what it must, and the bytes beside it were kept. */
+static void check_lent(struct lent *lent)
+{
+    long byte = wrong_byte(lent);
+    if (byte == NONE)
+        return;
+    if (byte < 0 || (size_t)byte >= lent->bytes)
+        fail_beside(lent, byte);
+    size_t first = (size_t)byte / lent->unit * lent->unit;
+    uint32_t found = 0, expected = 0;
+    memcpy(&found, lent->at + first, lent->unit);
+    memcpy(&expected, (uint8_t *)must_hold(lent) + first, lent->unit);
+    fail(lent->name, (long)(first / lent->unit), found, expected);
+}
+
+/* The answer is the expected one, and so is everything that was lent. */
+static void end_call(uint32_t found, uint32_t expected)
+{
+    calls[door]++;
+    answered[door][expected]++;
+    if (found != expected)
+        fail("the answer", 0, found, expected);
+    for (size_t i = 0; i < lent_now; i++) {
+        check_lent(now[i]);
+        give_back(now[i]);
+    }
+}
+
+/* Just enough room, more, or less; `enough` is what it takes, `most` what may be lent. */
+static size_t some_room(size_t enough, size_t most)
+{
+    size_t less = 1 + below(&drawn, chance(&drawn, 50) ? 1 : (uint32_t)enough + 1);
+    switch (below(&drawn, 20)) {
+    case 0:
+        return enough > less ? enough - less : 0;
+    case 1:
+        return most;
+    default:
+        return chance(&drawn, 60) || enough + 40 > most ? enough : enough + below(&drawn, 40);
+    }
+}
+
+static size_t at_most(size_t n, size_t most)
+{
+    return n < most ? n : most;
+}
+
+static size_t answer_room(void)
+{
+    if (below(&drawn, 100) == 0)
+        return chance(&drawn, 50) ? ANSWER - 1 : below(&drawn, ANSWER);
+    return chance(&drawn, 50) ? ANSWER : ANSWER + below(&drawn, 5);
+}
+
+static size_t some_report_room(void)
+{
+    if (below(&drawn, 40) == 0)
+        return chance(&drawn, 50) ? REPORT - 1 : below(&drawn, REPORT);
+    return chance(&drawn, 50) ? REPORT : REPORT + below(&drawn, 100);
+}
+
+static struct tables tables_of(const struct program *program)
+{
+    struct tables tables = {program->commands, program->numbers, program->lengths, program->threads};
+    return tables;
+}
+
+/* ---- the calls */
+
+static int fills_rooms(uint32_t verdict)
+{
+    return verdict == 0 || verdict == 10 || verdict == 11;
+}
+
+/* "Bit j mod 32 of word floor(j/32) in row i set exactly when i reaches j. Padding bits are 0 and later words keep their contents." */
+static void must_hold_relation(struct lent *lent, size_t rows, uint8_t bits[ROWS][ROWS])
+{
+    uint32_t *words = must_hold(lent);
+    size_t width = (rows + 31) / 32;
+    memset(words, 0, rows * width * sizeof *words);
+    for (size_t i = 0; i < rows; i++)
+        for (size_t j = 0; j < rows; j++)
+            if (bits[i][j])
+                words[i * width + j / 32] |= (uint32_t)1 << (j % 32);
+}
+
+/* As include/probe.h lays the answer out. */
+static void must_hold_review(const struct review *review, size_t rows)
+{
+    uint32_t *told = must_hold(&answer);
+    told[0] = (uint32_t)review->verdict.p;
+    told[1] = (uint32_t)review->verdict.q;
+    told[2] = review->sheet.total;
+    told[3] = 0;
+    memcpy(told + 4, review->sheet.pairs, sizeof review->sheet.pairs);
+    if (!fills_rooms(review->verdict.number))
+        return;
+    must_hold_relation(&relation, rows, ((struct review *)review)->reaches);
+    memcpy(must_hold(&generations), review->generations, rows * sizeof *review->generations);
+}
+
+static void mark_review(const struct review *review, size_t rows, size_t threads)
+{
+    marked[PAST_SIXTEEN] += review->sheet.total > KEPT;
+    marked[FULL_TABLE] += fills_rooms(review->verdict.number) && rows > 500;
+    marked[ALL_THREADS] += fills_rooms(review->verdict.number) && threads == THREADS;
+    marked[DIGIT_0] += review->verdict.number == 4 && review->verdict.p == 0;
+    marked[DIGIT_1] += review->verdict.number == 4 && review->verdict.p == 1;
+}
+
+/* Answers the verdict. */
+static uint32_t try_review(const struct tables *tables, const uint32_t *steps, size_t n, size_t relation_room, size_t generation_room, size_t told)
+{
+    static struct review expected;
+    begin_call(REVIEW);
+    const uint32_t *c = numbers(&commands, tables->commands, tables->numbers), *l = numbers(&lengths, tables->lengths, tables->threads);
+    const uint32_t *s = numbers(&schedule, steps, n);
+    uint32_t *r = room(&relation, relation_room), *g = room(&generations, generation_room), *a = room(&answer, told);
+    is_called = 1;
+    uint32_t got = probe_review(c, tables->numbers, l, tables->threads, s, n, r, relation_room, g, generation_room, a, told);
+    is_called = 0;
+    if (told < ANSWER) {
+        end_call(got, 14);
+        return 14;
+    }
+    review(tables, steps, n, relation_room, generation_room, &expected);
+    must_hold_review(&expected, rows_of(tables));
+    mark_review(&expected, rows_of(tables), tables->threads);
+    end_call(got, expected.verdict.number);
+    return got;
+}
+
+static void try_schedule(const struct tables *tables, size_t steps_room, size_t told)
+{
+    static struct schedule expected;
+    begin_call(SCHEDULE);
+    const uint32_t *c = numbers(&commands, tables->commands, tables->numbers), *l = numbers(&lengths, tables->lengths, tables->threads);
+    uint32_t *s = room(&schedule, steps_room), *a = room(&answer, told);
+    is_called = 1;
+    uint32_t got = probe_schedule(c, tables->numbers, l, tables->threads, s, steps_room, a, told);
+    is_called = 0;
+    if (told < ANSWER) {
+        end_call(got, 14);
+        return;
+    }
+    write_schedule(tables, steps_room, &expected);
+    const uint32_t first[4] = {(uint32_t)expected.verdict.p, (uint32_t)expected.verdict.q, (uint32_t)expected.length, 0};
+    memcpy(must_hold(&answer), first, sizeof first);
+    memcpy(must_hold(&schedule), expected.steps, expected.length * sizeof *expected.steps);
+    marked[DIGIT_2] += expected.verdict.number == 4 && expected.verdict.p == 2;
+    end_call(got, expected.verdict.number);
+}
+
+static void mark_reading(const struct reading *reading, size_t length)
+{
+    if (reading->verdict.number != 13)
+        return;
+    marked[BYTES] += length > TEXT;
+    marked[COMMANDS] += reading->commands > ROWS;
+    marked[MANY_THREADS] += reading->threads > THREADS;
+    marked[ROOM] += length <= TEXT && reading->commands <= ROWS && reading->threads <= THREADS;
+}
+
+static void try_read(const uint8_t *bytes, size_t length, size_t told)
+{
+    static struct reading expected;
+    read_text(bytes, length, 3 * ROWS, THREADS, &expected);
+    size_t numbers_room = some_room(at_most(3 * expected.commands, MOST_NUMBERS), MOST_NUMBERS);
+    size_t lengths_room = some_room(at_most(expected.threads, MOST_LENGTHS), MOST_LENGTHS);
+    begin_call(READING);
+    now[lent_now++] = &text;
+    const uint8_t *t = lend(&text, bytes, length, 1, chance(&drawn, 50));
+    uint32_t *c = room(&tables_room[0], numbers_room), *l = room(&tables_room[1], lengths_room), *a = room(&answer, told);
+    is_called = 1;
+    uint32_t got = probe_read(t, length, c, numbers_room, l, lengths_room, a, told);
+    is_called = 0;
+    if (told < ANSWER) {
+        end_call(got, 14);
+        return;
+    }
+    read_text(bytes, length, numbers_room, lengths_room, &expected);
+    mark_reading(&expected, length);
+    if (expected.verdict.number != 0)
+        expected.commands = expected.threads = 0;
+    const uint32_t first[5] = {(uint32_t)expected.verdict.p, (uint32_t)expected.verdict.q, (uint32_t)expected.commands, (uint32_t)expected.threads,
+                               (uint32_t)expected.rest};
+    memcpy(must_hold(&answer), first, sizeof first);
+    memcpy(must_hold(&tables_room[0]), expected.rows, 3 * expected.commands * sizeof *expected.rows);
+    memcpy(must_hold(&tables_room[1]), expected.lengths, expected.threads * sizeof *expected.lengths);
+    end_call(got, expected.verdict.number);
+}
+
+static void try_text(const uint8_t *bytes, size_t length, size_t report_room)
+{
+    struct verdict expected;
+    char printed[2 * REPORT];
+    begin_call(TEXTS);
+    now[lent_now++] = &text;
+    const uint8_t *t = lend(&text, bytes, length, 1, chance(&drawn, 50));
+    now[lent_now++] = &report;
+    int at_end = chance(&drawn, 50);
+    uint8_t *r = lend_room(&report, report_room, 1, at_end, draw(&drawn));
+    is_called = 1;
+    uint32_t got = review_text(t, length, r, report_room);
+    is_called = 0;
+    size_t n = review_of_text(bytes, length, report_room, &expected, printed);
+    if (n > report_room)
+        fail("the length of the report", 0, n, report_room);
+    memcpy(must_hold(&report), printed, n);
+    end_call(got, expected.number);
+}
+
+static void try_close(size_t rows, size_t words, uint32_t asked)
+{
+    static uint8_t bits[ROWS][ROWS];
+    begin_call(CLOSING);
+    uint32_t *r = room(&relation, words), *held = must_hold(&relation);
+    uint32_t density = below(&drawn, 33);
+    for (size_t i = 0; i < words; i++)
+        for (uint32_t bit = 0; bit < 32; bit++)
+            if (below(&drawn, 33) > density)
+                held[i] &= ~((uint32_t)1 << bit);
+    memcpy(r, held, 4 * words);
+    int enough = asked == rows && words >= relation_words(rows);
+    for (size_t i = 0; enough && i < rows; i++)
+        for (size_t j = 0; j < rows; j++)
+            bits[i][j] = (uint8_t)(held[i * ((rows + 31) / 32) + j / 32] >> (j % 32) & 1);
+    is_called = 1;
+    uint32_t got = probe_close(r, words, asked);
+    is_called = 0;
+    if (enough) {
+        close_under_chains(rows, bits);
+        must_hold_relation(&relation, rows, bits);
+    }
+    marked[MANY_ROWS] += enough && rows > 100;
+    end_call(got, (uint32_t)enough);
+}
+
+/* ---- demand 3 */
+
+/*
+ * "The verdict is 0 or 11 exactly when the schedule offered is legal and complete and every legal complete schedule of that program ends clean with the same
+ * generation for each command. It is 0 exactly when, besides, every two conflicting accesses stand in the same order in all of those schedules.
+ * Verdicts 7 to 10 are given only where that agreement fails."
+ */
+static void hold_to_demand_3(const struct tables *tables, const uint32_t *steps, size_t n, const struct common *all)
+{
+    uint32_t verdict = try_review(tables, steps, n, relation_words(rows_of(tables)), rows_of(tables), ANSWER);
+    int offered = is_legal_complete(tables, steps, n);
+    int agree = offered && all->agree, one_order = agree && all->one_order;
+    if ((verdict == 0 || verdict == 11) != agree)
+        fail("demand 3, 0 or 11: the verdict", (long)verdict, !agree, (unsigned long)agree);
+    if ((verdict == 0) != one_order)
+        fail("demand 3, 0: the verdict", (long)verdict, !one_order, (unsigned long)one_order);
+    if (verdict >= 7 && verdict <= 10 && all->agree)
+        fail("demand 3, 7 to 10: the verdict", (long)verdict, 1, 0);
+}
+
+/* ---- the cases */
+
+static struct program program;
+static uint32_t steps[MOST_STEPS + 8];
+static uint8_t bytes[MOST_TEXT + 64];
+
+static int wraps(const struct tables *tables)
+{
+    uint64_t sum = 0;
+    for (size_t t = 0; t < tables->threads; t++)
+        sum += tables->lengths[t];
+    return tables->threads <= THREADS && sum != (uint32_t)sum && (uint32_t)sum == rows_of(tables);
+}
+
+static void tables_case(int damaged)
+{
+    for (uint32_t i = damaged ? 1 + below(&drawn, 2) : 0; i > 0; i--)
+        damage_program(&drawn, &program);
+    struct tables tables = tables_of(&program);
+    size_t rows = rows_of(&tables);
+    marked[WRAPPED] += (unsigned long)wraps(&tables);
+    size_t steps_room = some_room(rows, MOST_STEPS);
+    try_schedule(&tables, steps_room, answer_room());
+    for (int i = 0; i < (rows > 100 ? 1 : 2); i++) {
+        size_t n = make_schedule(&drawn, &tables, steps);
+        size_t relation_room = some_room(rows > ROWS ? 0 : relation_words(rows), WORDS + 40), generation_room = some_room(rows, MOST_STEPS);
+        try_review(&tables, steps, n, relation_room, generation_room, answer_room());
+    }
+}
+
+static void text_case(void)
+{
+    for (size_t i = 0; i < program.numbers; i += 3) {
+        uint32_t name_or_count = program.commands[i] < ARRIVE ? 1 : 1 + below(&drawn, 2);
+        if (below(&drawn, 300) == 0)
+            program.commands[i + name_or_count] = odd_number(&drawn) % 65537;
+    }
+    size_t n = make_text(&drawn, &program, bytes);
+    try_read(bytes, n, answer_room());
+    try_text(bytes, n, some_report_room());
+}
+
+static void close_case(void)
+{
+    size_t rows = below(&drawn, chance(&drawn, 95) ? 40 : 140), words = some_room(relation_words(rows), WORDS);
+    try_close(rows, words, (uint32_t)rows);
+    uint32_t asked = odd_number(&drawn);
+    if (asked >= ROWS) /* more rows than a room of any size here has words for */
+        try_close(0, chance(&drawn, 50) ? words : below(&drawn, ROWS), asked == ROWS ? ROWS + 1 : asked);
+}
+
+/* Agreement is to be tried where it is not plain: where barriers are used again, and where two threads conflict. */
+static void mark_agreement(const struct tables *tables, const struct common *all)
+{
+    int again = 0, ordered = 0;
+    uint32_t counted[BARRIERS] = {0};
+    for (size_t i = 0; i < rows_of(tables); i++) {
+        const uint32_t *row = tables->commands + 3 * i;
+        if (row[0] >= ARRIVE)
+            again |= ++counted[row[1]] > row[2];
+        for (size_t j = tables->lengths[0]; i < tables->lengths[0] && j < rows_of(tables); j++)
+            ordered |= conflict(tables, i, j);
+    }
+    marked[AGAIN] += all->agree && again;
+    marked[ORDERED] += all->agree && all->one_order && ordered;
+}
+
+static void all_schedules_case(void)
+{
+    small_program(&drawn, SMALL, &program);
+    struct tables tables = tables_of(&program);
+    struct common all = try_all(&tables);
+    static struct schedule written;
+    write_schedule(&tables, ROWS, &written);
+    hold_to_demand_3(&tables, written.steps, written.length, &all);
+    for (int i = 0; i < 2; i++) {
+        size_t n = legal_schedule(&drawn, &tables, steps);
+        hold_to_demand_3(&tables, steps, n, &all);
+        n = make_schedule(&drawn, &tables, steps);
+        hold_to_demand_3(&tables, steps, n, &all);
+    }
+    mark_agreement(&tables, &all);
+    programs++;
+    schedules += all.schedules;
+}
+
+static void try_number(void)
+{
+    seed(&drawn, seed_given, number);
+    uint32_t which = below(&drawn, 1000);
+    if (which < 6) {
+        big_program(&drawn, &program);
+        tables_case(chance(&drawn, 20));
+    } else if (which < 8) {
+        big_program(&drawn, &program);
+        text_case();
+    } else if (which < 18) {
+        over_program(&drawn, &program);
+        text_case();
+    } else if (which < 100) {
+        close_case();
+    } else if (which < 200) {
+        all_schedules_case();
+    } else {
+        small_program(&drawn, chance(&drawn, 90) ? 16 : 60, &program);
+        if (which < 650)
+            tables_case(chance(&drawn, 30));
+        else
+            text_case();
+    }
+}
+
+/* ---- figures */
+
+static void demand_often(const char *what, const char *of, unsigned long came)
+{
+    if (came >= OFTEN)
+        return;
+    fprintf(stderr, "compare: seed %llu: %s%s came up %lu times, under %d\n", seed_given, of, what, came, OFTEN);
+    exit(1);
+}
+
+static void demand_all(void)
+{
+    char name[40];
+    for (int d = 0; d < DOORS; d++)
+        for (int v = 0; v < 16; v++)
+            if (answers[d] >> v & 1) {
+                sprintf(name, " answering %d", v);
+                demand_often(name, doors[d], answered[d][v]);
+            }
+    for (int m = 0; m < MARKS; m++)
+        demand_often(marks[m], "", marked[m]);
+}
+
+static void print_figures(void)
+{
+    unsigned long all = 0;
+    for (int d = 0; d < DOORS; d++)
+        all += calls[d];
+    printf("%lu inputs: %lu reviews, %lu schedules to write, %lu readings, %lu text reviews, %lu closings; of %lu programs all %lu schedules\n", all, calls[REVIEW],
+           calls[SCHEDULE], calls[READING], calls[TEXTS], calls[CLOSING], programs, schedules);
+}
+
+/* With COMPARE_DETAILS set: how often each answer and each mark came. */
+static void print_details(void)
+{
+    for (int d = 0; d < DOORS; d++) {
+        printf("  %s:", doors[d]);
+        for (int v = 0; v < 16; v++)
+            if (answered[d][v] > 0)
+                printf(" %d x %lu%s", v, answered[d][v], v < 15 ? "," : "");
+        printf("\n");
+    }
+    for (int m = 0; m < MARKS; m++)
+        printf("  %s: %lu\n", marks[m], marked[m]);
+}
+
+static void make_all(void)
+{
+    make_lent(&commands, "commands", 4 * MOST_NUMBERS);
+    make_lent(&lengths, "lengths", 4 * MOST_LENGTHS);
+    make_lent(&schedule, "schedule", 4 * (MOST_STEPS + 8));
+    make_lent(&relation, "relation", 4 * (WORDS + 80));
+    make_lent(&generations, "generations", 4 * (MOST_STEPS + 80));
+    make_lent(&answer, "answer", 4 * (ANSWER + 8));
+    make_lent(&text, "text", MOST_TEXT + 64);
+    make_lent(&report, "report", REPORT + 100);
+    make_lent(&tables_room[0], "commands", 4 * MOST_NUMBERS);
+    make_lent(&tables_room[1], "lengths", 4 * MOST_LENGTHS);
+}
+
+enum { BITTEN = 3 };
+
+static void end_child(int signal)
+{
+    (void)signal;
+    _exit(BITTEN);
+}
+
+/* What a child does to the guarded pages must end it; else the test could not see such a thing of an archive. */
+static void check_guard(const char *what, long place, int is_write)
+{
+    const uint8_t *at = lend(&text, "text", 4, 1, place > 0);
+    int status = 0;
+    pid_t child = fork();
+    if (child == 0) {
+        volatile uint8_t *touch = (volatile uint8_t *)at + place;
+        signal(SIGSEGV, end_child);
+        signal(SIGBUS, end_child);
+        if (is_write)
+            *touch = 0;
+        else
+            (void)*touch;
+        _exit(0);
+    }
+    if (child < 0 || waitpid(child, &status, 0) != child || !WIFEXITED(status) || WEXITSTATUS(status) != BITTEN) {
+        fprintf(stderr, "compare: the guard pages do not guard: %s\n", what);
+        exit(1);
+    }
+    give_back(&text);
+}
+
+static void check_guards(void)
+{
+    check_guard("a read after what is lent", 4, 0);
+    check_guard("a read before what is lent", -1, 0);
+    check_guard("a write to what is lent for reading", 0, 1);
+}
+
+int main(int argc, char **argv)
+{
+    char *unit = "";
+    if (argc != 3 && argc != 4) {
+        fprintf(stderr, "usage: compare SEED COUNT [FIRST] | compare SEED MINUTESm\n");
+        return 2;
+    }
+    seed_given = strtoull(argv[1], NULL, 10);
+    unsigned long long count = strtoull(argv[2], &unit, 10), first = argc == 4 ? strtoull(argv[3], NULL, 10) : 0;
+    time_t end = *unit == 'm' ? time(NULL) + 60 * (time_t)count : 0;
+    make_all();
+    check_guards();
+    struct sigaction action;
+    memset(&action, 0, sizeof action);
+    action.sa_handler = touched;
+    sigaction(SIGSEGV, &action, NULL);
+    sigaction(SIGBUS, &action, NULL);
+    for (number = first; end ? time(NULL) < end : number - first < count; number++)
+        try_number();
+    print_figures();
+    if (getenv("COMPARE_DETAILS") != NULL)
+        print_details();
+    if (argc == 3)
+        demand_all();
+    return 0;
+}

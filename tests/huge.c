@@ -1,0 +1,92 @@
+/*
+ * Lengths past 32 bits, over pages that are mapped and stay empty. A length that is cut to 32 bits would look lawful, or short: each call here would then
+ * be answered otherwise. Prints `huge: N answers, every one as expected`, or `huge: skipped` with the reason where the system gives no such mapping; the first
+ * wrong answer ends it with status 1.
+ */
+#define _DEFAULT_SOURCE
+#include <stdio.h>
+#include <stdlib.h>
+#include <string.h>
+#include <sys/mman.h>
+
+#include "../include/desk.h"
+#include "../include/probe.h"
+
+#define PAST ((size_t)1 << 32)
+enum { ANSWER = 36 };
+
+static unsigned long answers;
+static uint32_t *huge; /* three times PAST numbers, all 0 before each group of calls */
+static uint32_t answer[ANSWER], relation[1], generations[1], schedule[1], lengths[1];
+static const uint32_t read_0[3] = {0, 0, 0}, none[1] = {0}, one[1] = {1};
+
+/* What was returned, and the first numbers of the answer. */
+static void expect(const char *what, uint32_t got, uint32_t returned, uint32_t first, uint32_t third)
+{
+    answers++;
+    if (got == returned && answer[0] == first && answer[2] == third)
+        return;
+    printf("huge: %s: %u, place %u, %u; not %u, %u, %u\n", what, got, answer[0], answer[2], returned, first, third);
+    exit(1);
+}
+
+static void try_tables(void)
+{
+    expect("2^32 rows", probe_review(huge, 3 * PAST, none, 1, none, 0, relation, 1, generations, 1, answer, ANSWER), 1, 0, 0);
+    expect("2^32 + 1 numbers", probe_review(huge, PAST + 1, none, 1, none, 0, relation, 1, generations, 1, answer, ANSWER), 1, 0, 0);
+    expect("2^32 rows to write", probe_schedule(huge, 3 * PAST, none, 1, schedule, 1, answer, ANSWER), 1, 0, 0);
+    expect("2^32 + 1 threads", probe_review(none, 0, huge, PAST + 1, none, 0, relation, 1, generations, 1, answer, ANSWER), 2, 0, 0);
+    expect("2^32 + 1 threads to write", probe_schedule(none, 0, huge, PAST + 1, schedule, 1, answer, ANSWER), 2, 0, 0);
+    expect("2^32 steps of none", probe_review(none, 0, none, 1, huge, PAST, relation, 1, generations, 1, answer, ANSWER), 5, 0, 0);
+    expect("2^32 + 1 steps of one", probe_review(read_0, 3, one, 1, huge, PAST + 1, relation, 1, generations, 1, answer, ANSWER), 5, 1, 0);
+}
+
+static void try_rooms(void)
+{
+    expect("a relation room", probe_review(read_0, 3, one, 1, none, 1, huge, PAST, generations, 1, answer, ANSWER), 0, 0, 0);
+    expect("a generation room", probe_review(read_0, 3, one, 1, none, 1, relation, 1, huge + 1, PAST, answer, ANSWER), 0, 0, 0);
+    expect("a schedule room", probe_schedule(read_0, 3, one, 1, huge + 2, PAST, answer, ANSWER), 0, 0, 1);
+    uint32_t got = probe_review(read_0, 3, one, 1, none, 1, relation, 1, generations, 1, huge + 3, PAST);
+    memcpy(answer, huge + 3, sizeof answer);
+    expect("an answer room", got, 0, 0, 0);
+    uint32_t bits = huge[0] == 1 && relation[0] == 1 && generations[0] == 0 && huge[1] == 0 && huge[2] == 0;
+    expect("what the rooms hold", bits, 1, 0, 0);
+    huge[0] = 3;
+    expect("closing in a large room", probe_close(huge, PAST, 1), 1, 0, 0);
+    expect("the bit that is left", huge[0], 1, 0, 0);
+    expect("closing 2^32 - 1 rows", probe_close(huge, PAST, 0xffffffffu), 0, 0, 0);
+    huge[0] = 0;
+}
+
+static void try_texts(void)
+{
+    static uint8_t report[193];
+    const char over[] = "verdict 13 place 0 0\ntotal 0\n", clean[] = "verdict 0 place 0 0\ntotal 0\n";
+    uint8_t *text = (uint8_t *)huge;
+    memcpy(text, "return", 6);
+    expect("a text", probe_read(text, PAST + 6, schedule, 1, lengths, 1, answer, ANSWER), 13, 0, 0);
+    expect("its rest", answer[4], 0xffffffffu, 0, 0); /* the largest number that the answer can tell, docs/DECISIONS.md */
+    expect("the review of a text", review_text(text, PAST + 6, report, 192), 13, 0, 0);
+    expect("its report", memcmp(report, over, sizeof over) == 0, 1, 0, 0);
+    expect("a report room", review_text((const uint8_t *)"return", 6, text, PAST), 0, 0, 0);
+    expect("the report in it", memcmp(text, clean, sizeof clean - 1) == 0 && text[sizeof clean - 1] == 0, 1, 0, 0);
+    expect("a room for commands", probe_read((const uint8_t *)"write 7;return", 14, huge, PAST, lengths, 1, answer, ANSWER), 0, 0, 1);
+    expect("a room for lengths", probe_read((const uint8_t *)"return", 6, schedule, 0, huge + 8, PAST, answer, ANSWER), 0, 0, 0);
+    uint32_t tables = huge[0] == 1 && huge[1] == 7 && huge[2] == 0 && huge[8] == 0 && lengths[0] == 1;
+    expect("what these rooms hold", tables, 1, 0, 0);
+}
+
+int main(void)
+{
+    void *all = sizeof(size_t) < 8 ? MAP_FAILED : mmap(NULL, 3 * PAST * 4, PROT_READ | PROT_WRITE, MAP_PRIVATE | MAP_ANONYMOUS | MAP_NORESERVE, -1, 0);
+    if (all == MAP_FAILED) {
+        printf("huge: skipped, as 48 GiB of addresses are not to be had\n");
+        return 0;
+    }
+    huge = all;
+    try_tables();
+    try_rooms();
+    try_texts();
+    printf("huge: %lu answers, every one as expected\n", answers);
+    return 0;
+}

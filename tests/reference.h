@@ -1,0 +1,90 @@
+/*
+ * Document 01 once more, in plain C, for the tests to hold the archives to. It was written from the document's sentences and shares nothing with the
+ * code, its definitions or its proofs. It is slow and simple on purpose.
+ */
+#ifndef REFERENCE_H
+#define REFERENCE_H
+
+#include <stddef.h>
+#include <stdint.h>
+
+enum { ROWS = 512, THREADS = 64, BARRIERS = 16, LAST_ADDRESS = 4095, LAST_COUNT = 1024, KEPT = 16, LAST_NUMBER = 65535 };
+enum { TEXT = 32768, REPORT = 192 };
+enum { SPELLED_ROWS = TEXT / 6 + 1, SPELLED_THREADS = TEXT / 6 }; /* a text holds no more: `read0;` and `return` have six bytes; one row may be begun */
+enum { READ, WRITE, ARRIVE, SYNC };
+
+/* Lent tables, of any numbers. */
+struct tables {
+    const uint32_t *commands;
+    size_t numbers;
+    const uint32_t *lengths;
+    size_t threads;
+};
+
+struct verdict {
+    uint32_t number;
+    size_t p, q;
+};
+
+/* `expected` is 0 while the barrier is unset. */
+struct barrier {
+    uint32_t expected, registered, completed;
+};
+
+enum { UNBLOCKED = -1 };
+struct state {
+    uint32_t ran[THREADS];
+    int blocked[THREADS]; /* the barrier, or UNBLOCKED */
+    struct barrier barriers[BARRIERS];
+};
+
+enum did { STEPPED, NOT_ALLOWED, MISMATCHED };
+
+struct sheet {
+    uint32_t total, pairs[KEPT][2];
+};
+
+/* Generations and reaches are told for 0, 10 and 11 alone. */
+struct review {
+    struct verdict verdict;
+    struct sheet sheet;
+    uint32_t generations[ROWS];
+    uint8_t reaches[ROWS][ROWS];
+};
+
+struct schedule {
+    struct verdict verdict;
+    size_t length;
+    uint32_t steps[ROWS];
+};
+
+/* Counts and tables are told for 0 alone. */
+struct reading {
+    struct verdict verdict;
+    size_t rest, commands, threads;
+    uint32_t rows[3 * SPELLED_ROWS], lengths[SPELLED_THREADS];
+};
+
+size_t rows_of(const struct tables *tables);
+size_t relation_words(size_t rows);
+struct verdict check_tables(const struct tables *tables);
+
+void start(struct state *state);
+int is_allowed(const struct tables *tables, const struct state *state, uint32_t thread);
+int is_over(const struct tables *tables, const struct state *state);
+int ends_clean(const struct tables *tables, const struct state *state);
+size_t next_command(const struct tables *tables, const struct state *state, uint32_t thread);
+enum did step(const struct tables *tables, struct state *state, uint32_t thread, uint32_t *generations);
+
+/* Chains of one edge or more, from every row to every row. */
+void close_under_chains(size_t rows, uint8_t relation[ROWS][ROWS]);
+int conflict(const struct tables *tables, size_t x, size_t y);
+
+void review(const struct tables *tables, const uint32_t *schedule, size_t steps, size_t relation_room, size_t generation_room, struct review *out);
+void write_schedule(const struct tables *tables, size_t room, struct schedule *out);
+void read_text(const uint8_t *text, size_t length, size_t commands_room, size_t lengths_room, struct reading *out);
+
+/* The report's length, 0 for 14. `report` has twice REPORT bytes, so that a report that is too long can be seen. */
+size_t review_of_text(const uint8_t *text, size_t length, size_t report_room, struct verdict *verdict, char *report);
+
+#endif
