@@ -27,9 +27,13 @@ firsts (suc n) (p ∷ ps) = p ∷ firsts n ps
 unfoldable pub sheetOf : List Pair → Sheet
 sheetOf ps = record { pairs = firsts mostKept ps; total = length ps }
 
--- One pair more. Sixteen pairs, then only the total grows; a total at the largest number of its type stays there.
+-- a total with one pair more; at the largest number of its type it stays
+abbrev pub counted : ℕ → ℕ
+counted total = min (total + 1) mostCounted
+
+-- One pair more. Sixteen pairs, then only the total grows.
 unfoldable pub added : Sheet → Pair → Sheet
-added s p = record { pairs = cond (ltb (s .total) mostKept) (set (s .pairs) (s .total) p) (s .pairs); total = min (s .total + 1) mostCounted }
+added s p = record { pairs = cond (ltb (s .total) mostKept) (set (s .pairs) (s .total) p) (s .pairs); total = counted (s .total) }
 
 -- a list of pairs more, one after the other
 unfoldable pub addAll : Sheet → List Pair → Sheet

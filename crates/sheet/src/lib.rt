@@ -1,7 +1,7 @@
 // The fault sheet: the first pairs that are found are kept, and later ones only raise the total.
 ghost use mathlib.Core.Path.{_≡_};
 ghost use mathlib.Core.List.{[]};
-ghost use Rattle.sheet.specs.Sheet.{sheetOf, added};
+ghost use Rattle.sheet.specs.Sheet.{sheetOf, counted, added};
 
 pub struct Pair {
     pub first: usize,
@@ -11,6 +11,16 @@ pub struct Pair {
 pub struct Sheet {
     pub pairs: [Pair; Sheet::KEPT],
     pub total: usize,
+}
+
+// A total with one pair more; at the largest number of its type it stays.
+fn one_more(total: usize) -> usize
+    ensures { λ r. ⌜ r ≡ counted total ⌝ }
+{
+    if total < usize::MAX {
+        return total + 1;
+    }
+    total
 }
 
 impl Sheet {
@@ -35,9 +45,7 @@ impl Sheet {
         ensures { λ r. ⌜ r ≡ added self pair ⌝ }
     {
         let n = self.total;
-        if n < usize::MAX {
-            self.total = n + 1;
-        }
+        self.total = one_more(n);
         if n < Sheet::KEPT {
             self.pairs[n] = pair;
         }
