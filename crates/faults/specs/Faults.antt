@@ -56,7 +56,7 @@ faulty commands lengths g ρ Race i j = race commands lengths ρ i j
 unfoldable pub faults : List ℕ → List ℕ → (ℕ → ℕ) → (ℕ → ℕ → Bool) → Fault → List Pair
 faults commands lengths g ρ f = allRows (faulty commands lengths g ρ f) (pairOf f) (rows commands) (rows commands)
 
--- ---- what the parts ask for, and leave
+-- ---- what the parts ask for
 
 -- rows i and j of tables that pass are there, and their generations
 pub record Looks (commands lengths generations : List ℕ) (i j : ℕ) : Type 0 where
