@@ -25,12 +25,12 @@
 
 enum { ANSWER = 36, WORDS = ROWS * ROWS / 32, OFTEN = 10 };
 enum door { REVIEW, SCHEDULE, READING, TEXTS, CLOSING, DOORS };
-enum mark { PAST_SIXTEEN, FULL_TABLE, ALL_THREADS, WRAPPED, BYTES, COMMANDS, MANY_THREADS, ROOM, MANY_ROWS, DIGIT_0, DIGIT_1, DIGIT_2, AGAIN, ORDERED, MARKS };
+enum mark { PAST_SIXTEEN, FULL_TABLE, ALL_THREADS, WRAPPED, BYTES, COMMANDS, MANY_THREADS, ROOM, MANY_ROWS, DIGIT_0, DIGIT_1, DIGIT_2, FULL_REPORT, AGAIN, ORDERED, MARKS };
 
 static const char *const doors[DOORS] = {"probe_review", "probe_schedule", "probe_read", "review_text", "probe_close"};
 static const char *const marks[MARKS] = {"a sheet past sixteen pairs", "a review of over 500 rows up to 0, 10 or 11", "a review of 64 threads up to 0, 10 or 11",
                                          "lengths that add up if the sum wraps", "13 for bytes", "13 for commands", "13 for threads", "13 for a room",
-                                         "closing of over 100 rows", "4 with digit 0", "4 with digit 1", "4 with digit 2",
+                                         "closing of over 100 rows", "4 with digit 0", "4 with digit 1", "4 with digit 2", "a report of sixteen pairs",
                                          "all schedules agree and a barrier is used again", "all schedules agree and a barrier orders a conflict"};
 /* The answers that each door has to give OFTEN. */
 static const uint32_t answers[DOORS] = {0x4fff, 0x401f, 0x7001, 0x7f89, 0x3};
@@ -305,6 +305,10 @@ static void try_text(const uint8_t *bytes, size_t length, size_t report_room)
     if (n > report_room)
         fail("the length of the report", 0, n, report_room);
     memcpy(must_hold(&report), printed, n);
+    size_t lines = 0;
+    for (size_t i = 0; i < n; i++)
+        lines += printed[i] == '\n';
+    marked[FULL_REPORT] += lines == 2 + KEPT;
     end_call(got, expected.number);
 }
 

@@ -190,6 +190,10 @@ static void draft_program(struct random *random, uint32_t commands)
     struct style style = {barriers, addresses, counts, 50, 30, 30};
     switch (below(random, 6)) {
     case 0:
+        if (chance(random, 30)) { /* more races than a sheet keeps */
+            style.accesses = 97;
+            style.addresses = 1;
+        }
         scatter(random, &style, commands);
         return;
     case 1:
@@ -218,10 +222,22 @@ static void draft_program(struct random *random, uint32_t commands)
         spoil(random);
 }
 
+/* The same program with other names, so that the last barrier and the last address come up as the first ones do. */
+static void rename_all(struct random *random)
+{
+    uint32_t barriers = chance(random, 60) ? 0 : below(random, BARRIERS), addresses = chance(random, 60) ? 0 : below(random, LAST_ADDRESS + 1);
+    for (uint32_t t = 0; t < draft.threads; t++)
+        for (uint32_t i = 0; i < draft.lengths[t]; i++) {
+            uint32_t *row = draft.row[t][i];
+            row[1] = row[0] < ARRIVE ? (row[1] + addresses) % (LAST_ADDRESS + 1) : (row[1] + barriers) % BARRIERS;
+        }
+}
+
 void small_program(struct random *random, uint32_t most, struct program *program)
 {
     begin(1 + below(random, 6), most);
     draft_program(random, below(random, most + 1));
+    rename_all(random);
     lay_out(program);
 }
 
@@ -502,7 +518,7 @@ static size_t join(struct random *random, uint32_t most, uint32_t careless, uint
 /* A byte changed, removed or added, or the text cut there. */
 static size_t damage_bytes(struct random *random, uint8_t *text, size_t n)
 {
-    static const char likely[] = " \n;|0123456789abceirstuvwy";
+    static const char likely[] = " \n;|0123456789abceirstuvwy z`{/:!\t\v\x1f}az09"; /* letters, and the neighbours of each range */
     size_t at = n == 0 ? 0 : below(random, (uint32_t)n);
     uint8_t byte = chance(random, 80) ? (uint8_t)likely[below(random, sizeof likely - 1)] : (uint8_t)draw(random);
     switch (below(random, 4)) {
