@@ -1,1 +1,2 @@
+-- One module: Input (what has come from standard input).
 pub mod Input

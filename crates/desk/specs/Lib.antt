@@ -1,6 +1,8 @@
-pub mod Figures  -- numbers in decimal
-pub mod Conclusion  -- what the review of a text tells
-pub mod Report  -- the report's bytes
-pub mod Putting  -- bytes put into a room
-pub mod Promise  -- what the text review promises
-pub mod Examples  -- document 01's starred report
+-- Read in this order: Figures (numbers in decimal); Conclusion (what the review of a text tells); Report (the report's bytes); Promise (what the text review promises);
+-- Examples (document 01's starred report). By itself: Putting (bytes put into a room).
+pub mod Figures
+pub mod Conclusion
+pub mod Report
+pub mod Putting
+pub mod Promise
+pub mod Examples

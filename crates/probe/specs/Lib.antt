@@ -1,2 +1,3 @@
-pub mod Numbers  -- what an answer room gets
-pub mod Promise  -- what the doors promise
+-- Read in this order: Numbers (what an answer room gets); Promise (what the doors promise).
+pub mod Numbers
+pub mod Promise
