@@ -1,5 +1,4 @@
--- Read in this order: Order (happens-before over offered generations); Faults (reuse faults, races, their order); Findings (refusals 1 to 4, the verdict and the
--- pairs, and what `find_faults` promises).
-pub mod Order
+-- Happens-before and refusals 1 to 4 are in the crate `order`. Read here, in this order: Faults (reuse faults, races, their order); Findings (the verdict and
+-- the pairs, and what `find_faults` promises).
 pub mod Faults
 pub mod Findings

@@ -1,26 +1,43 @@
 // The reuse test, the race test, and the one ordered search that serves both.
 ghost use mathlib.Core.Path.{_≡_};
 ghost use Prim.Native.Nat.{_≤_, _<_};
+ghost use lib.Dec.{eqb};
 ghost use lib.ListN.{length};
-ghost use Rattle.tables.specs.Rows.{rows};
+ghost use Rattle.tables.specs.Limits.{mostThreads};
+ghost use Rattle.tables.specs.Rows.{rows, name, isFirst};
 ghost use Rattle.tables.specs.Rules.{Keeps};
 ghost use Rattle.relation.specs.Table.{related};
-ghost use Rattle.faults.specs.Order.{numberAt, TwoCommands};
+ghost use Rattle.order.specs.Order.{numberAt, TwoCommands};
 ghost use Rattle.sheet.specs.Sheet.{sheetOf, addAll};
 ghost use Rattle.faults.specs.Faults.{succeeds, reuse, conflict, race, faulty, pairOf, alongRow, faults, Looks, Searches};
-use crate::order::is_first;
-use crate::order::same_name;
 use relation::related;
 use sheet::Pair;
 use sheet::Sheet;
 use sheet::with_pair;
 use tables::Table;
+use tables::first_row;
 use tables::thread_of;
 
 // What is looked for.
 pub enum Fault {
     Reuse,
     Race,
+}
+
+// Is row c the first of its thread?
+fn is_first(lengths: &[u32], c: usize) -> bool
+    requires { ⌜ length (now lengths) ≤ mostThreads ⌝ }
+    ensures { λ r. ⌜ r ≡ isFirst (now (lengths .entry)) c ⌝ }
+{
+    c == first_row(lengths, thread_of(lengths, c))
+}
+
+// Have i and j the same barrier, or the same address?
+fn same_name(commands: &[u32], i: usize, j: usize) -> bool
+    requires { ⌜ (i < rows (now commands)) × (j < rows (now commands)) ⌝ }
+    ensures { λ r. ⌜ r ≡ eqb (name (now (commands .entry)) i) (name (now (commands .entry)) j) ⌝ }
+{
+    commands[i * 3 + 1] == commands[j * 3 + 1]
 }
 
 // Have c1 and c2 the same barrier, and is c2 one generation after c1?

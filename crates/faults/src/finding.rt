@@ -8,15 +8,13 @@ ghost use Rattle.tables.specs.Rules.{Keeps};
 ghost use Rattle.tables.specs.Verdicts.{numbered};
 ghost use Rattle.relation.specs.Table.{related};
 ghost use Rattle.sheet.specs.Sheet.{sheetOf};
-ghost use Rattle.faults.specs.Order.{numberAt};
-ghost use Rattle.faults.specs.Findings.{refused, Looked, Finds};
+ghost use Rattle.order.specs.Order.{numberAt};
+ghost use Rattle.faults.specs.Findings.{Looked, Finds};
 use crate::faults::Fault;
 use crate::faults::search;
-use crate::order::put_order;
-use relation::table_words;
+use order::refuse;
 use sheet::Sheet;
 use tables::Verdict;
-use tables::check_tables;
 
 pub struct Finding {
     pub verdict: Verdict,
@@ -31,24 +29,6 @@ pub fn bare(verdict: Verdict) -> Finding
         verdict,
         sheet: Sheet::empty(),
     }
-}
-
-// 1 to 4, or 0, of tables and the lengths of the two rooms.
-pub fn refuse(commands: &[u32], lengths: &[u32], relation: usize, generations: usize) -> Verdict
-    ensures { λ r. ⌜ numbered r ≡ refused (now (commands .entry)) (now (lengths .entry)) relation generations ⌝ }
-{
-    let verdict = check_tables(commands, lengths);
-    if verdict.number().number != 0 {
-        return verdict;
-    }
-    let m = commands.len() / 3;
-    if relation < table_words(m as u32) {
-        return Verdict::ShortRoom(0);
-    }
-    if generations < m {
-        return Verdict::ShortRoom(1);
-    }
-    Verdict::Clean
 }
 
 // 10, 11 or 0, with the sheet. Races are looked for only when there is no reuse fault.
@@ -75,19 +55,18 @@ fn look(commands: &[u32], lengths: &[u32], generations: &[u32], relation: &[u32]
     bare(Verdict::Clean)
 }
 
-// Any tables, any numbers offered as generations, any room. A refusal leaves the room as it was.
+// Any tables, any numbers offered as generations, any table of what reaches what. The rooms are only read.
 pub fn find_faults(
     commands: &[u32],
     lengths: &[u32],
     generations: &[u32],
-    relation: &mut [u32],
+    relation: &[u32],
 ) -> Finding
-    ensures { λ r. ⌜ Finds (now (commands .entry)) (now (lengths .entry)) (now (generations .entry)) (now (relation .entry)) r (now (relation .exit)) ⌝ }
+    ensures { λ r. ⌜ Finds (now (commands .entry)) (now (lengths .entry)) (now (generations .entry)) (now (relation .entry)) r ⌝ }
 {
     let refusal = refuse(commands, lengths, relation.len(), generations.len());
     if refusal.number().number != 0 {
         return bare(refusal);
     }
-    put_order(commands, lengths, generations, relation);
     look(commands, lengths, generations, relation)
 }

@@ -12,6 +12,7 @@ use Rattle.tables.specs.Rules.{checked}
 use Rattle.tables.specs.Verdicts.{tell, numbered}
 use Rattle.tables.specs.declared.verdict.Told.{Told}
 use Rattle.tables.specs.declared.verdict.Verdict.{Verdict}
+use Rattle.relation.specs.Table.{related}
 use Rattle.relation.proofs.Truth.{clashing}
 use Rattle.sheet.specs.declared.Pair.{Pair}
 use Rattle.replay.specs.declared.offered.Judged.{Judged}
@@ -21,18 +22,20 @@ use Rattle.faults.specs.declared.finding.Finding.{Finding}
 use Rattle.replay.specs.Replay.{played}
 use Rattle.replay.specs.Doors.{Replays}
 use Rattle.replay.specs.Ending.{judged}
-use Rattle.faults.specs.Order.{numberAt, Reached}
+use Rattle.order.specs.Refusals.{refused}
+use Rattle.order.specs.Order.{numberAt, Reached}
+use Rattle.order.specs.Orders.{Orders}
 use Rattle.faults.specs.Faults.{faults}
 use Rattle.sheet.specs.Sheet.{sheetOf}
-use Rattle.faults.specs.Findings.{refused, firstPair, faultTold, reaching, Finds}
+use Rattle.faults.specs.Findings.{firstPair, faultTold, Finds}
 use Rattle.review.specs.Judge.{put, generations, reaches, verdictOf, fills}
 use Rattle.review.specs.Agreement.{number, Judges, Reviewed}
 use Rattle.replay.proofs.Refusals.{or-first, or-second}
 use Rattle.replay.proofs.Plays.{Through, clean-through}
 use Rattle.replay.proofs.Judged.{judged-small, clean-verdict}
 use Rattle.review.proofs.Rooms.{put-front, put-beyond}
-use Rattle.faults.proofs.Refusals.{Admitted, refused-small, admitted}
-use Rattle.faults.proofs.Drawing.{same-reached, reach-same}
+use Rattle.order.proofs.Refusals.{Admitted, refused-small, admitted}
+use Rattle.order.proofs.Drawing.{same-reached, related-reaches}
 use Rattle.faults.proofs.Pairs.{same-faults}
 use Rattle.review.proofs.Judging.{told, judges}
 
@@ -114,8 +117,8 @@ module _ (commands lengths σ relation room : List ℕ) where
           (omega (arith, ap (λ (t : Told). t .number) e, judged-small (A .keeps) σ))
 
       -- 0, 10 and 11
-      module _ (zero : numbered (j .verdict) .number ≡ 0) {r : Finding} {relation′ room′ : List ℕ} (put-in : room′ ≡ put (j .generations) (rows commands) room)
-          (long : length room′ ≡ length room) (F : Finds commands lengths room′ relation r relation′) where
+      module _ (zero : numbered (j .verdict) .number ≡ 0) {v : Verdict} {r : Finding} {relation′ room′ : List ℕ} (put-in : room′ ≡ put (j .generations) (rows commands) room)
+          (long : length room′ ≡ length room) (O : Orders commands lengths room′ relation v relation′) (F : Finds commands lengths room′ relation′ r) where
         clean : judged lengths (played commands lengths σ) .number ≡ 0
         clean = ap (λ (t : Told). t .number) (sym told-judged) ∙ zero
 
@@ -138,15 +141,19 @@ module _ (commands lengths σ relation room : List ℕ) where
         again = rw long pass
 
         reached : Reached commands lengths g relation relation′
-        reached = same-reached commands lengths (numberAt room′) g same relation relation′ (F .holds again)
+        reached = same-reached commands lengths (numberAt room′) g same relation relation′ (O .holds (ap (λ (t : Told). t .number) (O .verdict) ∙ again))
 
-        found : (f : Fault) → faults commands lengths (numberAt room′) (reaching commands lengths room′) f ≡ faults commands lengths g (reaches commands lengths σ) f
-        found = same-faults commands lengths (numberAt room′) g _ _ same (reach-same commands lengths (numberAt room′) g same)
+        once-more : refused commands lengths (length relation′) (length room′) .number ≡ 0
+        once-more = rw (reached .len) again
+
+        -- over a room that holds what reaches what, the faults are those over what reaches what
+        found : (f : Fault) → faults commands lengths (numberAt room′) (related relation′ (rows commands)) f ≡ faults commands lengths g (reaches commands lengths σ) f
+        found = same-faults commands lengths (numberAt room′) g _ _ same (related-reaches commands lengths g relation relation′ reached (A .relation-fits))
 
         pub reviewed-filled : Reviewed commands lengths σ relation room r relation′ room′
         unfolding verdictOf
         reviewed-filled =
-            let d : numbered (r .verdict) ≡ faultTold commands lengths (numberAt room′) (reaching commands lengths room′) = F .verdict ∙ sym (or-second _ _ again) in
+            let d : numbered (r .verdict) ≡ faultTold commands lengths (numberAt room′) (related relation′ (rows commands)) = F .verdict ∙ sym (or-second _ _ once-more) in
             let e : numbered (r .verdict) ≡ faultTold commands lengths g (reaches commands lengths σ) = d ∙ rw (found Reuse, found Race) in
             let q : numbered (r .verdict) ≡ verdicts = e ∙ or-second (judged lengths (played commands lengths σ)) _ clean ∙ or-second refusal _ pass in
             let n : number r ≡ faultTold commands lengths g (reaches commands lengths σ) .number = ap (λ (t : Told). t .number) e in
@@ -162,6 +169,6 @@ module _ (commands lengths σ relation room : List ℕ) where
                     room-beyond = λ p h. ap (λ (r : List ℕ). getD r p 0) is-put ∙ put-beyond (played commands lengths σ .generations) room (rows commands) fits p h;
                   };
               demand₂ =
-                  record { verdict = q; sheet = λ _. F .sheet ∙ rw (eq-eqb _ 0 again, found Reuse, found Race); relation-holds = λ _. reached; room-holds = λ _. is-put };
+                  record { verdict = q; sheet = λ _. F .sheet ∙ rw (eq-eqb _ 0 once-more, found Reuse, found Race); relation-holds = λ _. reached; room-holds = λ _. is-put };
               demand₃ = third (r .verdict) q;
             }

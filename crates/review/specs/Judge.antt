@@ -10,7 +10,8 @@ use Rattle.replay.specs.InOrder.{orElse}
 use Rattle.replay.specs.Replay.{played, generation}
 use Rattle.replay.specs.Ending.{judged}
 use Rattle.replay.specs.Program.{program}
-use Rattle.faults.specs.Findings.{refused, faultTold}
+use Rattle.order.specs.Refusals.{refused}
+use Rattle.faults.specs.Findings.{faultTold}
 
 -- the first m numbers are put into a room; the rest is kept
 abbrev pub put : List ℕ → ℕ → List ℕ → List ℕ

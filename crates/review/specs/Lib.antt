@@ -1,5 +1,5 @@
--- The replay is in the crate `replay`, the faults are in `faults`. Read here, in this order: Judge (the verdict); Agreement (the three demands); Examples
--- (document 01's starred ones).
+-- The replay is in the crate `replay`, happens-before in `order`, the faults in `faults`. Read here, in this order: Judge (the verdict); Agreement (the
+-- three demands); Examples (document 01's starred ones).
 pub mod Judge
 pub mod Agreement
 pub mod Examples

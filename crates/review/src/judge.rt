@@ -4,7 +4,8 @@ use crate::generations::put_generations;
 use faults::Finding;
 use faults::bare;
 use faults::find_faults;
-use faults::refuse;
+use order::put_order;
+use order::refuse;
 use replay::judge;
 
 // Any tables, any schedule, any rooms. The verdict up to 9 is found before a room is touched; only for 0, 10 and 11 are they filled.
@@ -28,5 +29,6 @@ pub fn review(
     }
     let found = judged.generations;
     put_generations(generations, found, commands.len() / 3);
+    put_order(commands, lengths, generations, relation);
     find_faults(commands, lengths, generations, relation)
 }

@@ -5,7 +5,7 @@ use Prim.Native.Nat.{_≤_, _-_}
 use native.Mathlib.Omega.{arith}
 use Rattle.tables.specs.Rows.{rows}
 use Rattle.relation.specs.Table.{related}
-use Rattle.faults.specs.Order.{numberAt}
+use Rattle.order.specs.Order.{numberAt}
 use Rattle.sheet.specs.Sheet.{sheetOf, addAll}
 use Rattle.faults.specs.Faults.{faulty, pairOf, allRows, faults}
 use Rattle.faults.proofs.Searching.{all-none, all-more, faults-sheet}

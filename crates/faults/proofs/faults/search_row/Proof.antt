@@ -5,7 +5,7 @@ use Prim.Native.Nat.{_≤_, _-_}
 use Rattle.tables.specs.Limits.{mostRows}
 use Rattle.tables.specs.Rows.{rows}
 use Rattle.relation.specs.Table.{related}
-use Rattle.faults.specs.Order.{numberAt}
+use Rattle.order.specs.Order.{numberAt}
 use Rattle.sheet.specs.Sheet.{added, addAll}
 use Rattle.faults.specs.Faults.{faulty, pairOf, alongRow}
 use Rattle.faults.proofs.Searching.{row-none, row-found, row-passed}

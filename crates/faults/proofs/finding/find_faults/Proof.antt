@@ -1,8 +1,8 @@
--- `find_faults` meets its contract: refused before the room is touched, or happens-before put into it and searched. Assumes nothing.
+-- `find_faults` meets its contract: refused, or searched. Assumes nothing.
 use mathlib.Core.Path.{_∙_}
 use borrow.Author.Needs.{needs}
 use Rattle.replay.proofs.Refusals.{number-is, said-zero}
-use Rattle.faults.proofs.Refusals.{admitted}
+use Rattle.order.proofs.Refusals.{admitted}
 use Rattle.faults.proofs.Founds.{finds-refused, finds-looked}
 use Rattle.faults.proofs.finding.find_faults.Statement.{statement}
 use Rattle.faults.proofs.finding.find_faults.Tie as tie
@@ -13,38 +13,19 @@ returns c =
     let k = n .before .refuse in
     rw (c .bare .ensures) (finds-refused _ _ _ _ (k .result) (k .ensures) (λ e. c .before .if1 .taken (number-is (k .result) (n .number .ensures) ∙ e)))
 
-put-order-requires : tie.Need-put-order-requires
-put-order-requires c κs =
-    let n = c .before .before .before in
-    let k = n .before .refuse in
-    let A = admitted _ _ _ _ (said-zero (k .result) (n .number .ensures) (k .ensures) (c .before .if1 .left)) in
-    record { keeps = A .keeps; generations-fit = A .generations-fit; relation-fits = A .relation-fits }
-
 look-requires : tie.Need-look-requires
 look-requires c κs =
-    let i = c .before .before .before .before .before in
-    let n = i .before .before in
+    let n = c .before .before in
     let k = n .before .refuse in
-    let A = admitted _ _ _ _ (said-zero (k .result) (n .number .ensures) (k .ensures) (i .if1 .left)) in
+    let A = admitted _ _ _ _ (said-zero (k .result) (n .number .ensures) (k .ensures) (c .if1 .left)) in
     (A .keeps, A .generations-fit)
 
 returns-2 : tie.Need-returns-2
 returns-2 c =
-    let o = c .before .before .before .before in
-    let i = o .before .before in
+    let i = c .before in
     let n = i .before .before in
     let k = n .before .refuse in
-    finds-looked _ _ _ _ (said-zero (k .result) (n .number .ensures) (k .ensures) (i .if1 .left)) (o .put-order .ensures) (c .look .ensures)
+    finds-looked _ _ _ _ (said-zero (k .result) (n .number .ensures) (k .ensures) (i .if1 .left)) (c .look .ensures)
 
 pub find-faults-spec : {M : Type 1} → statement M
-find-faults-spec =
-    tie.close
-    (tie.spec
-    (λ c κs. search needs)
-    (λ c κs. search needs)
-    (λ c κs. search needs)
-    returns
-    put-order-requires
-    look-requires
-    (λ c. search needs)
-    returns-2)
+find-faults-spec = tie.close (tie.spec (λ c κs. search needs) (λ c κs. search needs) (λ c κs. search needs) returns look-requires returns-2)

@@ -1,8 +1,8 @@
--- `review` meets its contract: refused and judged before a room is touched; or the generations are put, and faults are looked for over them. Assumes nothing.
+-- `review` meets its contract: refused and judged before a room is touched; or the generations and happens-before are put, and faults are looked for over them. Assumes nothing.
 use mathlib.Core.Path.{sym, _∙_}
 use borrow.Author.Needs.{needs}
 use Rattle.replay.proofs.Refusals.{number-is, said-zero}
-use Rattle.faults.proofs.Refusals.{admitted}
+use Rattle.order.proofs.Refusals.{admitted}
 use Rattle.review.proofs.Reviews.{reviewed-refused, reviewed-judged, reviewed-filled}
 use Rattle.review.proofs.judge.review.Statement.{statement}
 use Rattle.review.proofs.judge.review.Tie as tie
@@ -34,7 +34,8 @@ put-generations-requires c κs =
 
 returns-3 : tie.Need-returns-3
 returns-3 c =
-    let p = c .before .before .before .before .before .before .before in
+    let o = c .before .before .before .before .before in
+    let p = o .before .before .before .before .before in
     let m = p .before .before .before .before .before in
     let j = m .before .judge in
     let i = m .before .before in
@@ -42,7 +43,7 @@ returns-3 c =
     let k = n .before .refuse in
     reviewed-filled _ _ _ _ _ (said-zero (k .result) (n .number .ensures) (k .ensures) (i .if1 .left)) (j .ensures)
     (sym (number-is (j .result .verdict) (m .number2 .ensures)) ∙ p .before .before .before .if2 .left) (p .put-generations .ensures) (p .put-generations .kept .0)
-    (c .before .before .find-faults .ensures)
+    (o .put-order .ensures) (c .find-faults .ensures)
 
 pub review-spec : {M : Type 1} → statement M
 review-spec =
@@ -57,6 +58,7 @@ review-spec =
     (λ c κs. search needs)
     returns-2
     put-generations-requires
+    (λ c κs. search needs)
     (λ c κs. search needs)
     (λ c. search needs)
     (λ c. search needs)

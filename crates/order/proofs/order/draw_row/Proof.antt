@@ -5,11 +5,11 @@ use Prim.Native.Nat.{_≤_, _-_}
 use Rattle.tables.specs.Limits.{mostRows}
 use Rattle.tables.specs.Rows.{rows}
 use Rattle.relation.specs.Table.{Holds}
-use Rattle.faults.specs.Order.{numberAt}
-use Rattle.faults.proofs.Drawing.{Partly, row-none, row-drawn, row-passed, row-all}
+use Rattle.order.specs.Order.{numberAt}
+use Rattle.order.proofs.Drawing.{Partly, row-none, row-drawn, row-passed, row-all}
 use borrow.Author.Needs.{needs}
-use Rattle.faults.proofs.order.draw_row.Statement.{statement}
-use Rattle.faults.proofs.order.draw_row.Tie as tie
+use Rattle.order.proofs.order.draw_row.Statement.{statement}
+use Rattle.order.proofs.order.draw_row.Tie as tie
 
 abbrev Inv-loop : tie.InvT-loop
 Inv-loop commands lengths generations relation₀ i m j₀ relation j =

@@ -3,14 +3,16 @@ use mathlib.Core.Path.{_≡_, sym, ap, _∙_}
 use mathlib.Core.Logic.{_⊎_, inl, inr, ⊎-elim, by-cases, _≢_, _↔_}
 use mathlib.Core.Bool.{Bool, true, false, not, and-false}
 use mathlib.Core.List.{List}
-use Prim.Native.Nat.{ℕ, suc, _+_, _≤_, _<_}
+use Prim.Native.Nat.{ℕ, suc, _+_, _≤_, _<_, min}
 use native.Mathlib.Decide.{decLt, ℕ-discrete}
 use native.Mathlib.Numerals.{add-one}
 use native.Mathlib.Omega.{arith}
 use lib.Dec.{eqb}
 use lib.ListN.{length}
 use borrow.Author.Tests.{eq-eqb, ne-eqb}
-use Rattle.tables.specs.Rows.{rows, isFirst}
+use Rattle.tables.specs.Limits.{mostThreads}
+use Rattle.tables.specs.Rows.{rows, firstRow, threadOf, isFirst}
+use Rattle.tables.proofs.Rows.{thread-most}
 use Rattle.relation.specs.Chains.{Chain, On}
 use Rattle.relation.specs.Table.{words, related, Related, Holds, Writes, Puts}
 use Rattle.relation.proofs.Truth.{clashing, same-test, pair, left, right}
@@ -20,9 +22,16 @@ use Rattle.relation.proofs.Rooms.{Inside, place-in, related-inside, holds-relat
 use Rattle.schedules.specs.Order.{Reaches, edge, reach}
 use Rattle.schedules.proofs.Table.{decides, edge-alike}
 use Rattle.replay.specs.Program.{program}
-use Rattle.faults.specs.Order.{numberAt, meets, edges, Reached, Roomy, From, Drawn, Ordering}
+use Rattle.order.specs.Order.{numberAt, meets, edges, Reached, Roomy, From, Drawn, Ordering}
 
 -- ---- each edge
+
+-- the thread of a row is at most the number of threads, which is within the limit
+pub first-is : (lengths : List ℕ) (c : ℕ) {t f : ℕ} → length lengths ≤ mostThreads → t ≡ threadOf lengths c → f ≡ firstRow lengths (min t mostThreads)
+    → eqb c f ≡ isFirst lengths c
+first-is lengths c {t} few thread first =
+    let e : min t mostThreads ≡ threadOf lengths c = omega (arith, thread-most lengths c) in
+    ap (eqb c) (first ∙ ap (firstRow lengths) e)
 
 module _ (commands lengths : List ℕ) (g : ℕ → ℕ) where
   pub edge-same : (i j : ℕ) → i ≡ j → edges commands lengths g i j ≡ true
@@ -179,10 +188,3 @@ same-reached commands lengths g h same b a H =
     holds-map b a (rows commands) (Reaches (program commands lengths) g) (Reaches (program commands lengths) h)
     (λ i j li lj. (λ p. reach-map (edge-alike same) p, λ p. reach-map (edge-alike (λ c l. sym (same c l))) p))
     H
-
-pub reach-same : (commands lengths : List ℕ) (g h : ℕ → ℕ) → ((c : ℕ) → c < rows commands → g c ≡ h c)
-    → (i j : ℕ) → i < rows commands → j < rows commands → reach (program commands lengths) g i j ≡ reach (program commands lengths) h i j
-reach-same commands lengths g h same i j li lj =
-    let (u, v) = decides (program commands lengths) g i j li lj in
-    let (w, z) = decides (program commands lengths) h i j li lj in
-    same-test _ _ (λ t. z (reach-map (edge-alike same) (u t))) (λ t. v (reach-map (edge-alike (λ c l. sym (same c l))) (w t)))

@@ -5,16 +5,19 @@ ghost use lib.Dec.{eqb};
 ghost use lib.ListN.{length};
 ghost use Rattle.tables.specs.Limits.{mostThreads};
 ghost use Rattle.tables.specs.Rows.{rows, name, isFirst};
-ghost use Rattle.faults.specs.Order.{numberAt, meets, edges, Drawn, TwoCommands, Ordering, Roomy, Reached};
+ghost use Rattle.order.specs.Order.{numberAt, meets, edges, Drawn, TwoCommands, Ordering};
+ghost use Rattle.order.specs.Orders.{Orders};
+use crate::refusal::refuse;
 use relation::clear;
 use relation::close;
 use relation::relate;
 use tables::Table;
+use tables::Verdict;
 use tables::first_row;
 use tables::thread_of;
 
 // Is row c the first of its thread?
-pub(crate) fn is_first(lengths: &[u32], c: usize) -> bool
+fn is_first(lengths: &[u32], c: usize) -> bool
     requires { ⌜ length (now lengths) ≤ mostThreads ⌝ }
     ensures { λ r. ⌜ r ≡ isFirst (now (lengths .entry)) c ⌝ }
 {
@@ -22,7 +25,7 @@ pub(crate) fn is_first(lengths: &[u32], c: usize) -> bool
 }
 
 // Have i and j the same barrier, or the same address?
-pub(crate) fn same_name(commands: &[u32], i: usize, j: usize) -> bool
+fn same_name(commands: &[u32], i: usize, j: usize) -> bool
     requires { ⌜ (i < rows (now commands)) × (j < rows (now commands)) ⌝ }
     ensures { λ r. ⌜ r ≡ eqb (name (now (commands .entry)) i) (name (now (commands .entry)) j) ⌝ }
 {
@@ -85,18 +88,22 @@ fn draw(commands: &[u32], lengths: &[u32], generations: &[u32], relation: &mut [
     }
 }
 
-// Happens-before over the generations into its room.
-pub(crate) fn put_order(
+// Happens-before over the generations, into any room. A refusal leaves the room as it was.
+pub fn put_order(
     commands: &[u32],
     lengths: &[u32],
     generations: &[u32],
     relation: &mut [u32],
-)
-    requires { ⌜ Roomy (now commands) (now lengths) (now generations) (now relation) ⌝ }
-    ensures { λ r. ⌜ Reached (now (commands .entry)) (now (lengths .entry)) (numberAt (now (generations .entry))) (now (relation .entry)) (now (relation .exit)) ⌝ }
+) -> Verdict
+    ensures { λ r. ⌜ Orders (now (commands .entry)) (now (lengths .entry)) (now (generations .entry)) (now (relation .entry)) r (now (relation .exit)) ⌝ }
 {
+    let refusal = refuse(commands, lengths, relation.len(), generations.len());
+    if refusal.number().number != 0 {
+        return refusal;
+    }
     let m = (commands.len() / 3) as u32;
     clear(relation, m);
     draw(commands, lengths, generations, relation);
     close(relation, m);
+    Verdict::Clean
 }

@@ -3,11 +3,11 @@ use mathlib.Core.Path.{_≡_}
 use Prim.Native.Nat.{_≤_, _-_}
 use native.Mathlib.Omega.{arith}
 use Rattle.tables.specs.Rows.{rows}
-use Rattle.faults.specs.Order.{Drawn}
-use Rattle.faults.proofs.Drawing.{all-go-on, all-more}
+use Rattle.order.specs.Order.{Drawn}
+use Rattle.order.proofs.Drawing.{all-go-on, all-more}
 use borrow.Author.Needs.{needs}
-use Rattle.faults.proofs.order.draw.Statement.{statement}
-use Rattle.faults.proofs.order.draw.Tie as tie
+use Rattle.order.proofs.order.draw.Statement.{statement}
+use Rattle.order.proofs.order.draw.Tie as tie
 
 abbrev Inv-loop : tie.InvT-loop
 Inv-loop commands lengths generations relation₀ m i₀ relation i = (i ≤ rows commands) × Drawn commands lengths generations relation₀ relation i

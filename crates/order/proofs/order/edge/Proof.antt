@@ -2,11 +2,11 @@
 use mathlib.Core.Path.{sym, _∙_}
 use mathlib.Core.Logic.{inl, inr, ⊎-elim}
 use borrow.Author.Tests.{not-true, not-false}
-use Rattle.faults.specs.Order.{numberAt}
-use Rattle.faults.proofs.Drawing.{edge-same, edge-along, edge-meets}
+use Rattle.order.specs.Order.{numberAt}
+use Rattle.order.proofs.Drawing.{edge-same, edge-along, edge-meets}
 use borrow.Author.Needs.{needs}
-use Rattle.faults.proofs.order.edge.Statement.{statement}
-use Rattle.faults.proofs.order.edge.Tie as tie
+use Rattle.order.proofs.order.edge.Statement.{statement}
+use Rattle.order.proofs.order.edge.Tie as tie
 
 returns : tie.Need-returns
 returns c =

@@ -1,0 +1,4 @@
+-- Laws, by subject, in an order that can be read: Refusals (1 to 4), Drawing (happens-before into its room), Unique (the doors have one outcome each).
+pub mod Refusals
+pub mod Drawing
+pub mod Unique

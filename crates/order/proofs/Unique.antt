@@ -1,0 +1,27 @@
+-- Any two outcomes that meet the contract of a door are equal. Assumes nothing.
+use mathlib.Core.Path.{_≡_, sym, ap, _∙_}
+use mathlib.Core.Logic.{by-cases, _≢_}
+use mathlib.Core.List.{List}
+use Prim.Native.Nat.{ℕ}
+use native.Mathlib.Decide.{ℕ-discrete}
+use Rattle.tables.specs.Verdicts.{numbered}
+use Rattle.tables.specs.declared.verdict.Verdict.{Verdict}
+use Rattle.tables.proofs.Verdicts.{numbered-one}
+use Rattle.relation.proofs.Rooms.{Words, holds-one}
+use Rattle.order.specs.Refusals.{refused}
+use Rattle.order.specs.Orders.{Orders}
+
+pub refuse-one : (commands lengths : List ℕ) (relation generations : ℕ) (a b : Verdict) → numbered a ≡ refused commands lengths relation generations
+    → numbered b ≡ refused commands lengths relation generations → a ≡ b
+refuse-one commands lengths relation generations a b A B = numbered-one a b (A ∙ sym B)
+
+-- words of 32 bits stand in the rooms
+pub put-order-one : (commands lengths generations relation : List ℕ) (a b : Verdict) {ra rb : List ℕ} → Words ra → Words rb
+    → Orders commands lengths generations relation a ra → Orders commands lengths generations relation b rb → (a ≡ b) × (ra ≡ rb)
+put-order-one commands lengths generations relation a b wa wb A B =
+    let e = refuse-one _ _ _ _ a b (A .verdict) (B .verdict) in
+    let n = ap (λ (v : Verdict). numbered v .number) (sym e) in (
+      e,
+      by-cases (ℕ-discrete (numbered a .number) 0) (λ (z : numbered a .number ≡ 0). holds-one _ _ _ _ _ wa wb (A .holds z) (B .holds (n ∙ z)))
+          (λ (m : numbered a .number ≢ 0). A .kept m ∙ sym (B .kept (λ z. m (sym n ∙ z)))),
+    )

@@ -1,0 +1,16 @@
+-- What `put_order` promises.
+use mathlib.Core.Path.{_≡_}
+use mathlib.Core.List.{List}
+use mathlib.Core.Logic.{_≢_}
+use Prim.Native.Nat.{ℕ}
+use lib.ListN.{length}
+use Rattle.tables.specs.Verdicts.{numbered}
+use Rattle.tables.specs.declared.verdict.Verdict.{Verdict}
+use Rattle.order.specs.Refusals.{refused}
+use Rattle.order.specs.Order.{numberAt, Reached}
+
+-- 1 to 4 and the room as it was; or 0, and the room holds what reaches what over the generations.
+pub record Orders (commands lengths generations relation : List ℕ) (r : Verdict) (relation′ : List ℕ) : Type 0 where
+  pub verdict : numbered r ≡ refused commands lengths (length relation) (length generations)
+  pub kept : numbered r .number ≢ 0 → relation′ ≡ relation
+  pub holds : numbered r .number ≡ 0 → Reached commands lengths (numberAt generations) relation relation′

@@ -1,0 +1,25 @@
+// Refusals 1 to 4, before a room is touched.
+ghost use mathlib.Core.Path.{_≡_};
+ghost use Rattle.tables.specs.Verdicts.{numbered};
+ghost use Rattle.order.specs.Refusals.{refused};
+use relation::table_words;
+use tables::Verdict;
+use tables::check_tables;
+
+// 1 to 4, or 0, of tables and the lengths of the two rooms.
+pub fn refuse(commands: &[u32], lengths: &[u32], relation: usize, generations: usize) -> Verdict
+    ensures { λ r. ⌜ numbered r ≡ refused (now (commands .entry)) (now (lengths .entry)) relation generations ⌝ }
+{
+    let verdict = check_tables(commands, lengths);
+    if verdict.number().number != 0 {
+        return verdict;
+    }
+    let m = commands.len() / 3;
+    if relation < table_words(m as u32) {
+        return Verdict::ShortRoom(0);
+    }
+    if generations < m {
+        return Verdict::ShortRoom(1);
+    }
+    Verdict::Clean
+}
