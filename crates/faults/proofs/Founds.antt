@@ -3,19 +3,23 @@ use mathlib.Core.Path.{_≡_, ap, _∙_}
 use mathlib.Core.Logic.{_≢_}
 use mathlib.Core.List.{List, []}
 use Prim.Native.Nat.{ℕ}
+use lib.ListN.{length}
 use borrow.Author.Tests.{eq-eqb, ne-eqb}
+use Rattle.tables.specs.Rows.{rows}
 use Rattle.tables.specs.Verdicts.{numbered}
 use Rattle.tables.specs.declared.verdict.Told.{Told}
 use Rattle.tables.specs.declared.verdict.Verdict.{Verdict}
+use Rattle.relation.specs.Table.{related}
 use Rattle.replay.proofs.Refusals.{or-first, or-second}
 use Rattle.sheet.specs.Sheet.{sheetOf}
 use Rattle.faults.specs.declared.finding.Finding.{Finding}
+use Rattle.order.specs.Refusals.{refused}
 use Rattle.order.specs.Order.{numberAt}
-use Rattle.faults.specs.Findings.{Looked, refusal, table, Finds}
+use Rattle.faults.specs.Findings.{Looked, Finds}
 
 module _ (commands lengths generations relation : List ℕ) where
   abbrev told : Told
-  told = refusal commands lengths generations relation
+  told = refused commands lengths (length relation) (length generations)
 
   pub finds-refused : (v : Verdict) → numbered v ≡ told → numbered v .number ≢ 0
       → Finds commands lengths generations relation (record { verdict = v; sheet = sheetOf [] })
@@ -23,6 +27,6 @@ module _ (commands lengths generations relation : List ℕ) where
       let m : told .number ≢ 0 = λ z. n (ap (λ (t : Told). t .number) e ∙ z) in
       record { verdict = e ∙ or-first told _ m; sheet = rw (ne-eqb (told .number) 0 m) }
 
-  pub finds-looked : told .number ≡ 0 → {r : Finding} → Looked commands lengths (numberAt generations) (table commands lengths generations relation) r
+  pub finds-looked : told .number ≡ 0 → {r : Finding} → Looked commands lengths (numberAt generations) (related relation (rows commands)) r
       → Finds commands lengths generations relation r
   finds-looked pass L = record { verdict = L .verdict ∙ or-second told _ pass; sheet = L .sheet ∙ rw (eq-eqb (told .number) 0 pass) }

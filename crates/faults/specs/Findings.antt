@@ -41,16 +41,15 @@ module _ (commands lengths : List ℕ) (g : ℕ → ℕ) (ρ : ℕ → ℕ → B
     pub verdict : numbered (r .verdict) ≡ faultTold
     pub sheet : r .sheet ≡ sheetOf faultPairs
 
-module _ (commands lengths generations relation : List ℕ) where
-  -- 1 to 4, by the lengths of the two rooms
-  abbrev pub refusal : Told
-  refusal = refused commands lengths (length relation) (length generations)
-
-  -- the table in the room, of as many rows as there are commands
-  abbrev pub table : ℕ → ℕ → Bool
-  table = related relation (rows commands)
-
-  -- The contract of `find_faults`: 1 to 4 with an empty sheet, or 10, 11 or 0 with the faults over the numbers and the table in the rooms.
-  pub record Finds (r : Finding) : Type 0 where
-    pub verdict : numbered (r .verdict) ≡ orElse refusal (faultTold commands lengths (numberAt generations) table)
-    pub sheet : r .sheet ≡ sheetOf (cond (eqb (refusal .number) 0) (faultPairs commands lengths (numberAt generations) table) [])
+-- The contract of `find_faults`: 1 to 4 with an empty sheet, or 10, 11 or 0 with the faults over the numbers and the table in the rooms.
+pub record Finds (commands lengths generations relation : List ℕ) (r : Finding) : Type 0 where
+  pub verdict :
+      numbered (r .verdict)
+      ≡ orElse (refused commands lengths (length relation) (length generations))
+      (faultTold commands lengths (numberAt generations) (related relation (rows commands)))
+  pub sheet :
+      r .sheet
+      ≡ sheetOf
+      (cond (eqb (refused commands lengths (length relation) (length generations) .number) 0)
+      (faultPairs commands lengths (numberAt generations) (related relation (rows commands)))
+      [])
