@@ -47,8 +47,8 @@ extern "C" {
  * to either during the call. Neither pointer may be null, not even with length 0: pass the address of any byte then.
  *
  * It keeps nothing between calls: the archive has no variables, so calls from several threads at once, each with its own report room, do not
- * meet. It takes no heap, opens nothing and prints nothing. It works on the stack: 55,896 bytes were measured below the caller's frame, the same
- * for every text that was judged, and a little less for refused ones. Nothing proves that figure, and another build may have another:
+ * meet. It takes no heap, opens nothing and prints nothing. It works on the stack: about 56,000 bytes were measured below the caller's frame for every
+ * text that was judged, and 3,000 less for refused ones. Nothing proves that figure, and another build may have another:
  * leave it 128 KiB.
  */
 uint32_t review_text(const uint8_t *text, size_t text_len, uint8_t *report, size_t report_len);
