@@ -13,13 +13,13 @@ use Rattle.relation.proofs.closing.join_rows.Tie as tie
 
 abbrev Inv-loop : tie.InvT-loop
 Inv-loop room₀ w k first end i₀ room i =
-    (i ≤ end) × (length room ≡ length room₀) × ((start : List ℕ) → RowsAre start room₀ w first (joinedIf start w k) → RowsAre start room w i (joinedIf start w k))
+    (i ≤ end) × (length room ≡ length room₀) × ((old : List ℕ) → RowsAre old room₀ w first (joinedIf old w k) → RowsAre old room w i (joinedIf old w k))
 
 abbrev μ-loop : tie.MeasureT-loop
 μ-loop room₀ w k first end i₀ room i = end - i
 
 loop-holds : tie.Need-loop-holds Inv-loop μ-loop
-loop-holds c = (c .before .pre .0, refl, λ start R. R)
+loop-holds c = (c .before .pre .0, refl, λ old R. R)
 
 join-if-requires : tie.Need-join-if-requires Inv-loop μ-loop
 join-if-requires c κs =
@@ -36,10 +36,10 @@ loop-again c =
     let l = c .before .before .before .before .before .loop in
     let s = c .before .before .before .before .before .before .before in
     let a = s .args in
-    (search needs, j .len ∙ l .inv .1, λ start R. round-more start (l .room) _ (a .w) (a .k) (l .i) (s .pre .3) (l .inv .2 start R) j)
+    (search needs, j .len ∙ l .inv .1, λ old R. round-more old (l .room) _ (a .w) (a .k) (l .i) (s .pre .3) (l .inv .2 old R) j)
 
 returns : tie.Need-returns Inv-loop μ-loop
-returns c = let l = c .before .loop in λ start R. rows-all (l .inv .0) (c .loop-test .left) (l .inv .2 start R)
+returns c = let l = c .before .loop in λ old R. rows-all (l .inv .0) (c .loop-test .left) (l .inv .2 old R)
 
 pub join-rows-spec : {M : Type 1} → statement M
 join-rows-spec =
