@@ -1,5 +1,6 @@
 /*
  * Where the time of a review goes, and how it grows with the number of commands. bench/README.md tells the method and what it does not say.
+ * Built with BEFORE, over a second archive whose functions have `before_` put before their names: also how long that one takes.
  * Every answer is checked; a wrong one ends the program with status 1. No time does.
  */
 #define _POSIX_C_SOURCE 199309L
@@ -11,9 +12,38 @@
 
 #include "../include/probe.h"
 
+/* The header once more, for the functions of the second archive. */
+#ifdef BEFORE
+#undef PROBE_H
+#define probe_review before_probe_review
+#define probe_schedule before_probe_schedule
+#define probe_read before_probe_read
+#define probe_close before_probe_close
+#include "../include/probe.h"
+#undef probe_review
+#undef probe_schedule
+#undef probe_read
+#undef probe_close
+#endif
+
+struct archive {
+    __typeof__(&probe_review) review;
+    __typeof__(&probe_schedule) schedule;
+    __typeof__(&probe_read) read;
+    __typeof__(&probe_close) close;
+};
+
+static const struct archive archives[] = {
+    {probe_review, probe_schedule, probe_read, probe_close},
+#ifdef BEFORE
+    {before_probe_review, before_probe_schedule, before_probe_read, before_probe_close},
+#endif
+};
+
 enum { COMMANDS = 512, THREADS = 64, LENGTH = 8, WORDS = COMMANDS * COMMANDS / 32, ANSWER = 36, TEXT = 32768 };
 enum { ARRIVE = 2, SYNC = 3 };
 enum { KINDS = 3, SIZES = 4, ROUNDS = 41 };
+enum { NOW, THEN, ARCHIVES = sizeof archives / sizeof *archives };
 enum part { READING, WRITING, REPLAY, CLOSING, REVIEW, PARTS };
 static const double SAMPLE = 0.003; /* seconds: a sample repeats its call until so much is spent */
 
@@ -36,7 +66,7 @@ struct kind {
 };
 
 static struct task tasks[KINDS][SIZES];
-static double times[KINDS][SIZES][PARTS][ROUNDS];
+static double times[2][KINDS][SIZES][PARTS][ROUNDS]; /* of the archive, and of the one before it */
 
 static void expect(const struct task *task, const char *what, uint32_t found, uint32_t expected)
 {
@@ -98,27 +128,27 @@ static uint32_t total(const struct task *task)
 
 /* ---- calls */
 
-static uint32_t review(struct task *task, size_t steps)
+static uint32_t review(int archive, struct task *task, size_t steps)
 {
-    return probe_review(task->commands, 3 * task->rows, task->lengths, task->threads, task->schedule, steps, task->relation, WORDS,
-                        task->generations, COMMANDS, task->answer, ANSWER);
+    return archives[archive].review(task->commands, 3 * task->rows, task->lengths, task->threads, task->schedule, steps,
+                                    task->relation, WORDS, task->generations, COMMANDS, task->answer, ANSWER);
 }
 
-static uint32_t call(enum part part, struct task *task)
+static uint32_t call(int archive, enum part part, struct task *task)
 {
     switch (part) {
     case READING:
-        return probe_read((const uint8_t *)task->text, task->bytes, task->commands, 3 * COMMANDS, task->lengths, THREADS,
-                          task->answer, ANSWER);
+        return archives[archive].read((const uint8_t *)task->text, task->bytes, task->commands, 3 * COMMANDS, task->lengths,
+                                      THREADS, task->answer, ANSWER);
     case WRITING:
-        return probe_schedule(task->commands, 3 * task->rows, task->lengths, task->threads, task->schedule, COMMANDS,
-                              task->answer, ANSWER);
+        return archives[archive].schedule(task->commands, 3 * task->rows, task->lengths, task->threads, task->schedule,
+                                          COMMANDS, task->answer, ANSWER);
     case REPLAY:
-        return review(task, task->rows - 1);
+        return review(archive, task, task->rows - 1);
     case CLOSING:
-        return probe_close(task->relation, WORDS, task->rows);
+        return archives[archive].close(task->relation, WORDS, task->rows);
     default:
-        return review(task, task->rows);
+        return review(archive, task, task->rows);
     }
 }
 
@@ -150,11 +180,31 @@ static void draw(struct task *task)
 
 /* ---- a text made, every part called once, and all that they tell checked */
 
-static void try_part(struct task *task, enum part part, const char *what, uint32_t expected, int at)
+static void try_part(int archive, struct task *task, enum part part, const char *what, uint32_t expected, int at)
 {
     memset(task->answer, 0xff, sizeof task->answer);
-    expect(task, "an answer", call(part, task), answered(part, task));
+    expect(task, "an answer", call(archive, part, task), answered(part, task));
     expect(task, what, task->answer[at], expected);
+}
+
+/* The closed edges must be the table that the first archive's review left, and so must that of every other review. */
+static void try_archive(int archive, struct task *task)
+{
+    try_part(archive, task, READING, "the number of commands", task->rows, 2);
+    expect(task, "the number of threads", task->answer[3], task->threads);
+    for (uint32_t t = 0; t < task->threads; t++)
+        expect(task, "a thread's length", task->lengths[t], LENGTH);
+    try_part(archive, task, WRITING, "the schedule's length", task->rows, 2);
+    try_part(archive, task, REPLAY, "the number of steps given", task->rows - 1, 0);
+    memset(task->relation, 0, sizeof task->relation);
+    try_part(archive, task, REVIEW, "the total", total(task), 2);
+    if (archive == NOW)
+        memcpy(task->reviewed, task->relation, sizeof task->relation);
+    expect(task, "the same table by both reviews", memcmp(task->relation, task->reviewed, sizeof task->relation) == 0, 1);
+    draw(task);
+    memcpy(task->relation, task->edges, sizeof task->relation);
+    expect(task, "the answer of closing", call(archive, CLOSING, task), 1);
+    expect(task, "closed edges equal the review's", memcmp(task->relation, task->reviewed, sizeof task->relation) == 0, 1);
 }
 
 static void make(struct task *task, const struct kind *kind, uint32_t rows)
@@ -167,18 +217,8 @@ static void make(struct task *task, const struct kind *kind, uint32_t rows)
         kind->thread(task, t);
         put(task, "return");
     }
-    try_part(task, READING, "the number of commands", rows, 2);
-    expect(task, "the number of threads", task->answer[3], task->threads);
-    for (uint32_t t = 0; t < task->threads; t++)
-        expect(task, "a thread's length", task->lengths[t], LENGTH);
-    try_part(task, WRITING, "the schedule's length", rows, 2);
-    try_part(task, REPLAY, "the number of steps given", rows - 1, 0);
-    try_part(task, REVIEW, "the total", total(task), 2);
-    memcpy(task->reviewed, task->relation, sizeof task->relation);
-    draw(task);
-    memcpy(task->relation, task->edges, sizeof task->relation);
-    expect(task, "the answer of closing", call(CLOSING, task), 1);
-    expect(task, "closed edges equal the review's", memcmp(task->relation, task->reviewed, sizeof task->relation) == 0, 1);
+    for (int archive = NOW; archive < ARCHIVES; archive++)
+        try_archive(archive, task);
 }
 
 /* ---- times */
@@ -191,7 +231,7 @@ static double now(void)
 }
 
 /* The seconds of one call. The edges are put anew into the relation room before each closing, outside the time. */
-static double sample(enum part part, struct task *task)
+static double sample(int archive, enum part part, struct task *task)
 {
     double spent = 0;
     int calls = 0;
@@ -199,7 +239,7 @@ static double sample(enum part part, struct task *task)
         if (part == CLOSING)
             memcpy(task->relation, task->edges, sizeof task->relation);
         double start = now();
-        uint32_t answer = call(part, task);
+        uint32_t answer = call(archive, part, task);
         spent += now() - start;
         calls++;
         expect(task, "a timed answer", answer, answered(part, task));
@@ -207,14 +247,14 @@ static double sample(enum part part, struct task *task)
     return spent / calls;
 }
 
-/* One round takes a sample of everything, so that a change of the machine's load meets all alike. */
+/* One round takes a sample of everything, both archives side by side, so that a change of the machine's load meets all alike. */
 static void take_round(int round)
 {
     for (int kind = 0; kind < KINDS; kind++)
         for (int size = 0; size < SIZES; size++)
             for (int part = 0; part < PARTS; part++)
-                if (part == REVIEW || size == SIZES - 1)
-                    times[kind][size][part][round] = sample((enum part)part, &tasks[kind][size]);
+                for (int archive = NOW; archive < ARCHIVES && (part == REVIEW || size == SIZES - 1); archive++)
+                    times[archive][kind][size][part][round] = sample(archive, (enum part)part, &tasks[kind][size]);
 }
 
 static int by_size(const void *a, const void *b)
@@ -237,6 +277,15 @@ static double median(const double *values)
     return quantile(values, 0.5);
 }
 
+/* The median of the ratios that are taken within each round. */
+static double ratio(const double *a, const double *b)
+{
+    double ratios[ROUNDS];
+    for (int round = 0; round < ROUNDS; round++)
+        ratios[round] = a[round] / b[round];
+    return median(ratios);
+}
+
 /* ---- what is printed */
 
 static void print_method(void)
@@ -255,7 +304,7 @@ static void share_round(int kind, int round, double shares[PARTS])
 {
     double t[PARTS];
     for (int part = 0; part < PARTS; part++)
-        t[part] = times[kind][SIZES - 1][part][round];
+        t[part] = times[NOW][kind][SIZES - 1][part][round];
     double all = t[READING] + t[WRITING] + t[REVIEW];
     t[REVIEW] -= t[REPLAY] + t[CLOSING];
     for (int part = 0; part < PARTS; part++)
@@ -285,14 +334,22 @@ static void print_growth(void)
     printf("%-8s%9d%9d%9d%9d%15s%15s\n", "", 64, 128, 256, 512, "(512: ms)", "(middle half)");
     for (int kind = 0; kind < KINDS; kind++) {
         printf("%-8s", kinds[kind].name);
-        for (int size = 0; size < SIZES; size++) {
-            double ratios[ROUNDS];
-            for (int round = 0; round < ROUNDS; round++)
-                ratios[round] = times[kind][size][REVIEW][round] / times[kind][0][REVIEW][round];
-            printf("%9.1f", median(ratios));
-        }
-        const double *last = times[kind][SIZES - 1][REVIEW];
+        for (int size = 0; size < SIZES; size++)
+            printf("%9.1f", ratio(times[NOW][kind][size][REVIEW], times[NOW][kind][0][REVIEW]));
+        const double *last = times[NOW][kind][SIZES - 1][REVIEW];
         printf("%15.2f%8.2f -%5.2f\n", 1000 * median(last), 1000 * quantile(last, 0.25), 1000 * quantile(last, 0.75));
+    }
+}
+
+static void print_before(void)
+{
+    printf("\nThe time by the archive before, as a ratio to the time now\n");
+    printf("%-8s%9d%9d%9d%9d%19s\n", "review", 64, 128, 256, 512, "closing alone, 512");
+    for (int kind = 0; kind < KINDS; kind++) {
+        printf("%-8s", kinds[kind].name);
+        for (int size = 0; size < SIZES; size++)
+            printf("%9.1f", ratio(times[THEN][kind][size][REVIEW], times[NOW][kind][size][REVIEW]));
+        printf("%19.1f\n", ratio(times[THEN][kind][SIZES - 1][CLOSING], times[NOW][kind][SIZES - 1][CLOSING]));
     }
 }
 
@@ -306,5 +363,7 @@ int main(void)
     print_method();
     print_shares();
     print_growth();
+    if (ARCHIVES > 1)
+        print_before();
     return 0;
 }
