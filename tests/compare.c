@@ -25,12 +25,12 @@
 
 enum { ANSWER = 36, WORDS = ROWS * ROWS / 32, OFTEN = 10 };
 enum door { REVIEW, SCHEDULE, READING, TEXTS, CLOSING, DOORS };
-enum mark { PAST_SIXTEEN, FULL_TABLE, ALL_THREADS, WRAPPED, BYTES, COMMANDS, MANY_THREADS, ROOM, MANY_ROWS, DIGIT_0, DIGIT_1, DIGIT_2, FULL_REPORT, AGAIN, ORDERED, MARKS };
+enum mark { PAST_SIXTEEN, FULL_TABLE, ALL_THREADS, WRAPPED, BYTES, COMMANDS, MANY_THREADS, ROOM, MANY_ROWS, WIDE_ROWS, DIGIT_0, DIGIT_1, DIGIT_2, FULL_REPORT, AGAIN, ORDERED, MARKS };
 
 static const char *const doors[DOORS] = {"probe_review", "probe_schedule", "probe_read", "review_text", "probe_close"};
 static const char *const marks[MARKS] = {"a sheet past sixteen pairs", "a review of over 500 rows up to 0, 10 or 11", "a review of 64 threads up to 0, 10 or 11",
                                          "lengths that add up if the sum wraps", "13 for bytes", "13 for commands", "13 for threads", "13 for a room",
-                                         "closing of over 100 rows", "4 with digit 0", "4 with digit 1", "4 with digit 2", "a report of sixteen pairs",
+                                         "closing of over 100 rows", "closing of rows of eight words or more", "4 with digit 0", "4 with digit 1", "4 with digit 2", "a report of sixteen pairs",
                                          "all schedules agree and a barrier is used again", "all schedules agree and a barrier orders a conflict"};
 /* The answers that each door has to give OFTEN. */
 static const uint32_t answers[DOORS] = {0x4fff, 0x401f, 0x7001, 0x7f89, 0x3};
@@ -312,16 +312,34 @@ static void try_text(const uint8_t *bytes, size_t length, size_t report_room)
     end_call(got, expected.number);
 }
 
-static void try_close(size_t rows, size_t words, uint32_t asked)
+/* Every bit is set with one chance. */
+static void draw_even(uint32_t *held, size_t words)
 {
-    static uint8_t bits[ROWS][ROWS];
-    begin_call(CLOSING);
-    uint32_t *r = room(&relation, words), *held = must_hold(&relation);
     uint32_t density = below(&drawn, 33);
     for (size_t i = 0; i < words; i++)
         for (uint32_t bit = 0; bit < 32; bit++)
             if (below(&drawn, 33) > density)
                 held[i] &= ~((uint32_t)1 << bit);
+}
+
+/* At most two bits to a row, padding bits among them: chains are long, and many rows do not reach each other. */
+static void draw_thin(uint32_t *held, size_t words, size_t rows)
+{
+    size_t table = relation_words(rows) < words ? relation_words(rows) : words;
+    memset(held, 0, 4 * table);
+    for (size_t bits = table == 0 ? 0 : below(&drawn, (uint32_t)(2 * rows + 1)); bits > 0; bits--)
+        held[below(&drawn, (uint32_t)table)] |= (uint32_t)1 << below(&drawn, 32);
+}
+
+static void try_close(size_t rows, size_t words, uint32_t asked)
+{
+    static uint8_t bits[ROWS][ROWS];
+    begin_call(CLOSING);
+    uint32_t *r = room(&relation, words), *held = must_hold(&relation);
+    if (rows > 140 || chance(&drawn, 50))
+        draw_thin(held, words, rows);
+    else
+        draw_even(held, words);
     memcpy(r, held, 4 * words);
     int enough = asked == rows && words >= relation_words(rows);
     for (size_t i = 0; enough && i < rows; i++)
@@ -335,6 +353,7 @@ static void try_close(size_t rows, size_t words, uint32_t asked)
         must_hold_relation(&relation, rows, bits);
     }
     marked[MANY_ROWS] += enough && rows > 100;
+    marked[WIDE_ROWS] += enough && rows > 7 * 32;
     end_call(got, (uint32_t)enough);
 }
 
@@ -402,7 +421,7 @@ static void text_case(void)
 
 static void close_case(void)
 {
-    size_t rows = below(&drawn, chance(&drawn, 95) ? 40 : 140), words = some_room(relation_words(rows), WORDS);
+    size_t rows = below(&drawn, chance(&drawn, 90) ? 40 : chance(&drawn, 50) ? 140 : ROWS + 1), words = some_room(relation_words(rows), WORDS);
     try_close(rows, words, (uint32_t)rows);
     uint32_t asked = odd_number(&drawn);
     if (asked >= ROWS) /* more rows than a room of any size here has words for */
