@@ -19,7 +19,7 @@ abbrev μ-loop : tie.MeasureT-loop
 μ-loop room₀ w k first end i₀ room i = end - i
 
 loop-holds : tie.Need-loop-holds Inv-loop μ-loop
-loop-holds c = (c .before .pre .0, refl, λ old R. R)
+loop-holds c = (search needs, refl, λ old R. R)
 
 join-if-requires : tie.Need-join-if-requires Inv-loop μ-loop
 join-if-requires c κs =
