@@ -336,7 +336,7 @@ static void try_close(size_t rows, size_t words, uint32_t asked)
     static uint8_t bits[ROWS][ROWS];
     begin_call(CLOSING);
     uint32_t *r = room(&relation, words), *held = must_hold(&relation);
-    if (rows > 140 || chance(&drawn, 50))
+    if (chance(&drawn, rows > 140 ? 95 : 50))
         draw_thin(held, words, rows);
     else
         draw_even(held, words);
