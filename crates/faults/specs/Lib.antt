@@ -2,3 +2,4 @@
 -- the pairs, and what `find_faults` promises).
 pub mod Faults
 pub mod Findings
+pub mod Lists

@@ -10,6 +10,10 @@ ghost use Rattle.relation.specs.Table.{related};
 ghost use Rattle.order.specs.Order.{numberAt, TwoCommands};
 ghost use Rattle.sheet.specs.Sheet.{sheetOf, addAll};
 ghost use Rattle.faults.specs.Faults.{succeeds, reuse, conflict, race, faulty, pairOf, alongRow, faults, Looks, Searches};
+ghost use Rattle.faults.specs.Lists.{Lists};
+use crate::lists::list;
+use crate::lists::wanted;
+use crate::lists::wide;
 use relation::related;
 use sheet::Pair;
 use sheet::Sheet;
@@ -51,22 +55,23 @@ fn succeeds(commands: &[u32], generations: &[u32], c1: usize, c2: usize) -> bool
     both & same_barrier & next
 }
 
-// Is (c1, c2) a reuse fault?
+// Is (c1, c2) a reuse fault? `first` says whether c2 is first in its thread.
 fn is_reuse(
     commands: &[u32],
     lengths: &[u32],
     generations: &[u32],
     relation: &[u32],
+    first: bool,
     c1: usize,
     c2: usize,
 ) -> bool
-    requires { ⌜ Looks (now commands) (now lengths) (now generations) c1 c2 ⌝ }
+    requires { ⌜ Looks (now commands) (now lengths) (now generations) c1 c2 × (first ≡ isFirst (now lengths) c2) ⌝ }
     ensures { λ r. ⌜ r ≡ reuse (now (commands .entry)) (now (lengths .entry)) (numberAt (now (generations .entry))) (related (now (relation .entry)) (rows (now (commands .entry)))) c1 c2 ⌝ }
 {
     if !succeeds(commands, generations, c1, c2) {
         return false;
     }
-    if is_first(lengths, c2) {
+    if first {
         return true;
     }
     let m = (commands.len() / 3) as u32;
@@ -96,11 +101,14 @@ fn is_race(commands: &[u32], lengths: &[u32], relation: &[u32], x: usize, y: usi
     if !conflict(commands, x, y) {
         return false;
     }
-    if thread_of(lengths, x) == thread_of(lengths, y) {
+    let m = (commands.len() / 3) as u32;
+    if related(relation, m, x as u32, y as u32) {
         return false;
     }
-    let m = (commands.len() / 3) as u32;
-    !related(relation, m, x as u32, y as u32) & !related(relation, m, y as u32, x as u32)
+    if related(relation, m, y as u32, x as u32) {
+        return false;
+    }
+    thread_of(lengths, x) != thread_of(lengths, y)
 }
 
 // The search goes by an outer number i and an inner number j. For reuse i is c2 and j is c1; for races i is x and j is y.
@@ -125,19 +133,20 @@ fn is_fault(
     lengths: &[u32],
     generations: &[u32],
     relation: &[u32],
+    first: bool,
     i: usize,
     j: usize,
 ) -> bool
-    requires { ⌜ Looks (now commands) (now lengths) (now generations) i j ⌝ }
+    requires { ⌜ Looks (now commands) (now lengths) (now generations) i j × (first ≡ isFirst (now lengths) i) ⌝ }
     ensures { λ r. ⌜ r ≡ faulty (now (commands .entry)) (now (lengths .entry)) (numberAt (now (generations .entry))) (related (now (relation .entry)) (rows (now (commands .entry)))) fault i j ⌝ }
 {
     match fault {
-        Fault::Reuse => is_reuse(commands, lengths, generations, relation, j, i),
+        Fault::Reuse => is_reuse(commands, lengths, generations, relation, first, j, i),
         Fault::Race => is_race(commands, lengths, relation, i, j),
     }
 }
 
-// The faults of outer number i, added to a sheet.
+// The faults of outer number i, added to a sheet: those that its list has.
 fn search_row(
     sheet: Sheet,
     fault: Fault,
@@ -145,19 +154,56 @@ fn search_row(
     lengths: &[u32],
     generations: &[u32],
     relation: &[u32],
+    firsts: &[u32],
+    nexts: &[u32],
     i: usize,
 ) -> Sheet
-    requires { ⌜ Searches (now commands) (now lengths) (now generations) i ⌝ }
+    requires { ⌜ Searches (now commands) (now lengths) (now generations) i × Lists (now commands) (now generations) (now firsts) (now nexts) 0 ⌝ }
     ensures { λ r. ⌜ r ≡ addAll sheet (alongRow (faulty (now (commands .entry)) (now (lengths .entry)) (numberAt (now (generations .entry))) (related (now (relation .entry)) (rows (now (commands .entry)))) fault i) (pairOf fault i) (rows (now (commands .entry)))) ⌝ }
 {
     let m = commands.len() / 3;
+    let first = is_first(lengths, i);
+    let k = wanted(fault, commands, generations, i);
     let mut found = sheet;
-    let mut j = 0;
+    let mut j = wide(firsts[k]);
     while j < m {
-        if is_fault(fault, commands, lengths, generations, relation, i, j) {
+        if is_fault(fault, commands, lengths, generations, relation, first, i, j) {
             found = with_pair(found, pair_of(fault, i, j));
         }
-        j += 1;
+        j = wide(nexts[j]);
+    }
+    found
+}
+
+// All faults of a kind, in their order, by lists.
+fn search_all(
+    fault: Fault,
+    commands: &[u32],
+    lengths: &[u32],
+    generations: &[u32],
+    relation: &[u32],
+    firsts: &[u32],
+    nexts: &[u32],
+) -> Sheet
+    requires { ⌜ (Keeps (now commands) (now lengths) × (rows (now commands) ≤ length (now generations))) × Lists (now commands) (now generations) (now firsts) (now nexts) 0 ⌝ }
+    ensures { λ r. ⌜ r ≡ sheetOf (faults (now (commands .entry)) (now (lengths .entry)) (numberAt (now (generations .entry))) (related (now (relation .entry)) (rows (now (commands .entry)))) fault) ⌝ }
+{
+    let m = commands.len() / 3;
+    let mut found = Sheet::empty();
+    let mut i = 0;
+    while i < m {
+        found = search_row(
+            found,
+            fault,
+            commands,
+            lengths,
+            generations,
+            relation,
+            firsts,
+            nexts,
+            i,
+        );
+        i += 1;
     }
     found
 }
@@ -173,12 +219,16 @@ pub(crate) fn search(
     requires { ⌜ Keeps (now commands) (now lengths) × (rows (now commands) ≤ length (now generations)) ⌝ }
     ensures { λ r. ⌜ r ≡ sheetOf (faults (now (commands .entry)) (now (lengths .entry)) (numberAt (now (generations .entry))) (related (now (relation .entry)) (rows (now (commands .entry)))) fault) ⌝ }
 {
-    let m = commands.len() / 3;
-    let mut found = Sheet::empty();
-    let mut i = 0;
-    while i < m {
-        found = search_row(found, fault, commands, lengths, generations, relation, i);
-        i += 1;
-    }
-    found
+    let mut firsts = [512u32; 12288];
+    let mut nexts = [0u32; 512];
+    list(commands, generations, &mut firsts, &mut nexts);
+    search_all(
+        fault,
+        commands,
+        lengths,
+        generations,
+        relation,
+        &firsts,
+        &nexts,
+    )
 }

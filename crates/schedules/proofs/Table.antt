@@ -25,7 +25,7 @@ edge-alike same y z (meets l k r s a e) = meets l k r s a (sym (same y l) ∙ e 
 module _ (P : Program) (g : ℕ → ℕ) where
   open Program P using (size, first, registers, syncs, barrier)
 
-  edge-out : (y z : ℕ) → On size (edge P g) y z → Edge P g y z
+  pub edge-out : (y z : ℕ) → On size (edge P g) y z → Edge P g y z
   unfolding edge
   edge-out y z o =
       ⊎-elim
@@ -44,7 +44,7 @@ module _ (P : Program) (g : ℕ → ℕ) where
   edge-set y z (along l e f) = left _ _ (pair _ _ (eq-eqb _ _ e) (ap not f))
   edge-set y z (meets l k r s a e) = right (eqb z (suc y) && not (first z)) _ (pair _ _ r (pair _ _ s (pair _ _ (eq-eqb _ _ a) (eq-eqb _ _ e))))
 
-  edge-in : (y z : ℕ) → Edge P g y z → On size (edge P g) y z
+  pub edge-in : (y z : ℕ) → Edge P g y z → On size (edge P g) y z
   edge-in y z e = record { from = edge-low e .0; to = edge-low e .1; set = edge-set y z e }
 
 pub decides : (P : Program) → Decides P

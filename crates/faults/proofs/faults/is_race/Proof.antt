@@ -1,6 +1,7 @@
 -- The tests, one after the other. Assumes nothing.
 use mathlib.Core.Path.{sym, _∙_}
-use borrow.Author.Tests.{lt-ltb, le-ltb, eq-eqb, ne-eqb, not-true, not-false}
+use mathlib.Core.Bool.{and-false, and-true}
+use borrow.Author.Tests.{lt-ltb, le-ltb, not-true, not-false}
 use Rattle.tables.specs.Limits.{mostRows}
 use Rattle.faults.specs.Faults.{race}
 use borrow.Author.Needs.{needs}
@@ -18,10 +19,12 @@ returns-2 c = simp (lt-ltb _ _ (c .before .before .if1 .left), sym (c .before .c
 returns-3 : tie.Need-returns-3
 unfolding race
 returns-3 c =
+    let k = c .before .before in
     simp (
-      lt-ltb _ _ (c .before .before .before .before .before .if1 .left),
-      sym (c .before .before .before .before .conflict .ensures) ∙ not-false _ (c .before .before .before .if2 .left),
-      eq-eqb _ _ (sym (c .before .before .thread-of .ensures) ∙ c .if3 .taken ∙ c .before .thread-of2 .ensures),
+      lt-ltb _ _ (k .before .before .if1 .left),
+      sym (k .before .conflict .ensures) ∙ not-false _ (k .if2 .left),
+      sym (c .before .related .ensures) ∙ c .if3 .taken,
+      and-false,
     )
 
 returns-4 : tie.Need-returns-4
@@ -29,11 +32,25 @@ unfolding race
 returns-4 c =
     let k = c .before .before .before .before in
     simp (
-      lt-ltb _ _ (k .before .before .before .if1 .left),
-      sym (k .before .before .conflict .ensures) ∙ not-false _ (k .before .if2 .left),
-      ne-eqb _ _ (λ e. c .before .before .if3 .left (k .thread-of .ensures ∙ e ∙ sym (c .before .before .before .thread-of2 .ensures))),
-      c .before .related .ensures,
-      c .related2 .ensures,
+      lt-ltb _ _ (k .before .before .if1 .left),
+      sym (k .before .conflict .ensures) ∙ not-false _ (k .if2 .left),
+      sym (c .before .related2 .ensures) ∙ c .if4 .taken,
+      and-false,
+    )
+
+returns-5 : tie.Need-returns-5
+unfolding race
+returns-5 c =
+    let i = c .before .before in
+    let k = i .before .before .before .before in
+    simp (
+      lt-ltb _ _ (k .before .before .if1 .left),
+      sym (k .before .conflict .ensures) ∙ not-false _ (k .if2 .left),
+      sym (i .before .before .before .related .ensures) ∙ i .before .before .if3 .left,
+      sym (i .before .related2 .ensures) ∙ i .if4 .left,
+      and-true,
+      c .before .thread-of .ensures,
+      c .thread-of2 .ensures,
     )
 
 pub is-race-spec : {M : Type 1} → statement M
@@ -44,14 +61,15 @@ is-race-spec =
     returns
     (λ c κs. search needs)
     returns-2
-    (λ c κs. search needs)
+    (λ c. search needs)
+    (λ c. search needs)
+    (λ c. search needs)
     (λ c κs. search needs)
     returns-3
     (λ c. search needs)
     (λ c. search needs)
-    (λ c. search needs)
     (λ c κs. search needs)
-    (λ c. search needs)
-    (λ c. search needs)
+    returns-4
     (λ c κs. search needs)
-    returns-4)
+    (λ c κs. search needs)
+    returns-5)

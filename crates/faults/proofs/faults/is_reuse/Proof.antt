@@ -16,20 +16,22 @@ returns c = simp (sym (c .before .succeeds .ensures) ∙ not-true _ (c .if1 .tak
 returns-2 : tie.Need-returns-2
 unfolding reuse
 returns-2 c =
-    simp (sym (c .before .before .before .succeeds .ensures) ∙ not-false _ (c .before .before .if1 .left), sym (c .before .is-first .ensures) ∙ c .if2 .taken)
+    let s = c .before .before .before .before .before .before .before in
+    simp (sym (c .before .before .succeeds .ensures) ∙ not-false _ (c .before .if1 .left), sym (s .pre .1) ∙ c .if2 .taken)
 
 sub-related : tie.Need-sub-related
 sub-related c =
-    let s = c .before .before .before .before .before .before .before .before in
-    past-first (s .args .lengths .now) (s .args .c2) (omega (arith, s .pre .keeps .adds-up, s .pre .to)) (sym (c .before .is-first .ensures) ∙ c .if2 .left)
+    let s = c .before .before .before .before .before .before .before in
+    past-first (s .args .lengths .now) (s .args .c2) (omega (arith, s .pre .0 .keeps .adds-up, s .pre .0 .to)) (sym (s .pre .1) ∙ c .if2 .left)
 
 returns-3 : tie.Need-returns-3
 unfolding reuse
 returns-3 c =
-    let k = c .before .before .before in
+    let k = c .before .before in
+    let s = k .before .before .before .before .before .before in
     simp (
       sym (k .before .succeeds .ensures) ∙ not-false _ (k .if1 .left),
-      sym (c .before .before .is-first .ensures) ∙ c .before .if2 .left,
+      sym (s .pre .1) ∙ c .before .if2 .left,
       ← c .related .ensures,
     )
 
@@ -40,7 +42,6 @@ is-reuse-spec =
     (tie.spec
     (λ c κs. search needs)
     returns
-    (λ c κs. search needs)
     returns-2
     (λ c. search needs)
     (λ c. search needs)

@@ -1,4 +1,4 @@
--- `put_order` meets its contract: refused before the room is touched, or the room is cleared, all edges are drawn, and it is closed. Assumes nothing.
+-- `put_order` meets its contract: refused before the room is touched, or each command reaches itself, and rows are joined until every edge is taken. Assumes nothing.
 use mathlib.Core.Path.{_≡_, refl, sym, _∙_}
 use mathlib.Core.List.{List}
 use Prim.Native.Nat.{ℕ}
@@ -10,7 +10,7 @@ use Rattle.replay.proofs.Refusals.{number-is, said-zero}
 use Rattle.order.specs.Refusals.{refused}
 use Rattle.order.specs.Order.{Roomy}
 use Rattle.order.proofs.Refusals.{admitted}
-use Rattle.order.proofs.Drawing.{none-go-on, ordered}
+use Rattle.order.proofs.Joining.{roomy-diagonal, ordered}
 use borrow.Author.Needs.{needs}
 use Rattle.order.proofs.order.put_order.Statement.{statement}
 use Rattle.order.proofs.order.put_order.Tie as tie
@@ -33,18 +33,18 @@ cast-m c =
     let k = n .before .refuse in
     omega (arith, admitted _ _ _ _ (said-zero (k .result) (n .number .ensures) (k .ensures) (c .if1 .left)) .keeps .few-rows)
 
-draw-requires : tie.Need-draw-requires
-draw-requires c κs =
-    let i = c .before .before .before .before .before in
+close-along-requires : tie.Need-close-along-requires
+close-along-requires c κs =
+    let d = c .before .before .before in
+    let i = d .before .before in
     let n = i .before .before in
     let k = n .before .refuse in
-    none-go-on (roomy _ _ _ _ (said-zero (k .result) (n .number .ensures) (k .ensures) (i .if1 .left))) (c .before .before .before .clear .ensures)
+    roomy-diagonal (roomy _ _ _ _ (said-zero (k .result) (n .number .ensures) (k .ensures) (i .if1 .left))) (d .diagonal .ensures)
 
 returns-2 : tie.Need-returns-2
 returns-2 c =
     let d = c .before .before .before .before .before .before in
-    let l = d .before .before .before .before in
-    let i = l .before .before in
+    let i = d .before .before in
     let n = i .before .before in
     let k = n .before .refuse in
     let a = n .before .before .before .before .before .before .args in
@@ -53,7 +53,7 @@ returns-2 c =
     record {
       verdict = sym (zero-told (k .result) (sym (number-is (k .result) (n .number .ensures)) ∙ i .if1 .left)) ∙ k .ensures;
       kept = λ m. absurd (m refl);
-      holds = λ _. ordered R (l .clear .ensures) (d .draw .ensures) (c .before .before .close .ensures);
+      holds = λ _. ordered R (d .diagonal .ensures) (c .before .before .close-along .ensures);
     }
 
 pub put-order-spec : {M : Type 1} → statement M
@@ -65,7 +65,6 @@ put-order-spec =
     returns
     cast-m
     (λ c κs. search needs)
-    draw-requires
-    (λ c κs. search needs)
+    close-along-requires
     (λ c. search needs)
     returns-2)

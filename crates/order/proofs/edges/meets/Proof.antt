@@ -1,8 +1,8 @@
 -- The four tests, in one conjunction. Assumes nothing.
 use mathlib.Core.Bool.{and-assoc}
 use borrow.Author.Needs.{needs}
-use Rattle.order.proofs.order.meets.Statement.{statement}
-use Rattle.order.proofs.order.meets.Tie as tie
+use Rattle.order.proofs.edges.meets.Statement.{statement}
+use Rattle.order.proofs.edges.meets.Tie as tie
 
 returns : tie.Need-returns
 returns c = simp (and-assoc, c .before .before .same-name .ensures)

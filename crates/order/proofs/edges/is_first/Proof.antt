@@ -1,8 +1,8 @@
 -- The row at which the thread begins is compared. Assumes nothing.
 use Rattle.order.proofs.Drawing.{first-is}
 use borrow.Author.Needs.{needs}
-use Rattle.order.proofs.order.is_first.Statement.{statement}
-use Rattle.order.proofs.order.is_first.Tie as tie
+use Rattle.order.proofs.edges.is_first.Statement.{statement}
+use Rattle.order.proofs.edges.is_first.Tie as tie
 
 returns : tie.Need-returns
 returns c = first-is _ _ (c .before .before .before .pre) (c .before .thread-of .ensures) (c .first-row .ensures)

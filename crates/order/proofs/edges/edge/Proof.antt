@@ -5,8 +5,8 @@ use borrow.Author.Tests.{not-true, not-false}
 use Rattle.order.specs.Order.{numberAt}
 use Rattle.order.proofs.Drawing.{edge-same, edge-along, edge-meets}
 use borrow.Author.Needs.{needs}
-use Rattle.order.proofs.order.edge.Statement.{statement}
-use Rattle.order.proofs.order.edge.Tie as tie
+use Rattle.order.proofs.edges.edge.Statement.{statement}
+use Rattle.order.proofs.edges.edge.Tie as tie
 
 returns : tie.Need-returns
 returns c =

@@ -1,0 +1,31 @@
+-- Joins of rows one after the other, in any order, and when they leave exactly what can be reached.
+use mathlib.Core.Path.{_≡_}
+use mathlib.Core.Bool.{Bool, true, false}
+use mathlib.Core.List.{List}
+use Prim.Native.Nat.{ℕ, _*_, _≤_, _<_}
+use lib.ListN.{length, getD}
+use Rattle.relation.specs.Bits.{bitAt, RowIs, joined, sum}
+use Rattle.relation.specs.Table.{width, words}
+
+-- the room after joins of rows k into rows i, of numbers below m that R relates
+pub data Joined (R : ℕ → ℕ → Type 0) (m : ℕ) (before : List ℕ) : List ℕ → Type 0 where
+  none : Joined R m before before
+  more : {r after : List ℕ} {i k : ℕ} → Joined R m before r → i < m → k < m → R i k → RowIs r after (width m) i (joined r (width m) i k)
+      → Joined R m before after
+
+-- and said is whether that changed anything: if so, words have grown
+pub record Pass (R : ℕ → ℕ → Type 0) (m : ℕ) (before after : List ℕ) (said : Bool) : Type 0 where
+  pub joins : Joined R m before after
+  pub still : said ≡ false → after ≡ before
+  pub grown : said ≡ true → sum before < sum after
+
+-- row i has each bit that row k has
+pub record Takes (room : List ℕ) (m i k : ℕ) : Type 0 where
+  pub bits : (j : ℕ) → j < 32 * width m → bitAt room (width m) k j ≡ true → bitAt room (width m) i j ≡ true
+
+-- each number is related to itself, each bit that is set is a pair of R, and the words after the table are as before
+pub record Within (before after : List ℕ) (m : ℕ) (R : ℕ → ℕ → Type 0) : Type 0 where
+  pub len : length after ≡ length before
+  pub diagonal : (i : ℕ) → i < m → bitAt after (width m) i i ≡ true
+  pub sound : (i j : ℕ) → i < m → j < 32 * width m → bitAt after (width m) i j ≡ true → (j < m) × R i j
+  pub kept : (p : ℕ) → words m ≤ p → getD after p 0 ≡ getD before p 0
