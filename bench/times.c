@@ -1,5 +1,6 @@
 /*
- * Where the time of a review goes, and how it grows with the number of commands. bench/README.md tells the method and what it does not say.
+ * Where the time of a review goes, how it grows with the number of commands, and how long ordinary C (bench/plain.c) takes for the same.
+ * bench/README.md tells the method and what it does not say.
  * Built with BEFORE, over a second archive whose functions have `before_` put before their names: also how long that one takes.
  * Every answer is checked; a wrong one ends the program with status 1. No time does.
  */
@@ -11,6 +12,7 @@
 #include <time.h>
 
 #include "../include/probe.h"
+#include "plain.h"
 
 /* The header once more, for the functions of the second archive. */
 #ifdef BEFORE
@@ -40,28 +42,32 @@ static const struct archive archives[] = {
 #endif
 };
 
-enum { COMMANDS = 512, THREADS = 64, LENGTH = 8, WORDS = COMMANDS * COMMANDS / 32, ANSWER = 36, TEXT = 32768 };
+enum { COMMANDS = 512, THREADS = 64, WORDS = COMMANDS * COMMANDS / 32, ANSWER = 36, TEXT = 32768, FILLING = 0xa5 };
 enum { ARRIVE = 2, SYNC = 3 };
-enum { KINDS = 3, SIZES = 4, ROUNDS = 41 };
+enum { KINDS = 6, SIZES = 4, LAST = SIZES - 1, ROUNDS = 41 };
 enum { NOW, THEN, ARCHIVES = sizeof archives / sizeof *archives };
-enum part { READING, WRITING, REPLAY, CLOSING, REVIEW, PARTS };
-static const double SAMPLE = 0.003; /* seconds: a sample repeats its call until so much is spent */
+enum part { READING, WRITING, REPLAY, REVIEW, ORDINARY, PARTS };
+static const double SAMPLE = 0.002; /* seconds: a sample repeats its call until so much is spent */
+
+/* What a review writes. */
+struct rooms {
+    uint32_t relation[WORDS], generations[COMMANDS], answer[ANSWER];
+};
 
 /* One text and all that the doors make of it. */
 struct task {
     const struct kind *kind;
-    uint32_t rows, threads;
+    uint32_t rows, threads, length; /* commands, threads, commands to a thread */
     size_t bytes;
     char text[TEXT];
     uint32_t commands[3 * COMMANDS], lengths[THREADS], schedule[COMMANDS];
-    uint32_t relation[WORDS], generations[COMMANDS], answer[ANSWER];
-    uint32_t edges[WORDS], reviewed[WORDS];
+    struct rooms rooms, first; /* lent to each call; as the first review left them */
 };
 
-/* A pattern of texts: what one thread does, and the verdict. */
+/* A pattern of texts: what one thread does, and the verdict. Either all threads have a given length, or there are given threads. */
 struct kind {
     const char *name;
-    uint32_t verdict;
+    uint32_t verdict, length, threads;
     void (*thread)(struct task *task, uint32_t t);
 };
 
@@ -76,7 +82,7 @@ static void expect(const struct task *task, const char *what, uint32_t found, ui
     exit(1);
 }
 
-/* ---- texts: every thread has LENGTH commands */
+/* ---- texts */
 
 static void put(struct task *task, const char *format, ...)
 {
@@ -89,10 +95,28 @@ static void put(struct task *task, const char *format, ...)
     task->bytes += n;
 }
 
-/* Each thread writes its own address and reads its neighbour's, and all threads meet after each access. */
-static void full(struct task *task, uint32_t t)
+/* Half of the threads fill two tiles by turns, the other half use them: a tile is written once it is empty and read once it is full. */
+static void clean(struct task *task, uint32_t t)
 {
-    for (int k = 0; k < LENGTH; k += 4) {
+    uint32_t all = task->threads, half = all / 2, n = t % half, rounds = task->length / 4;
+    if (t >= half)
+        put(task, "arrive 0 %u; arrive 1 %u; ", all, all);
+    for (uint32_t round = 0; round < rounds; round++) {
+        uint32_t empty = round % 2, full = empty + 2, tile = empty * all;
+        if (t < half) {
+            put(task, "sync %u %u; write %u; write %u; arrive %u %u; ", empty, all, tile + n, tile + half + n, full, all);
+            continue;
+        }
+        put(task, "sync %u %u; read %u; read %u; ", full, all, tile + n, tile + half + (n + 1) % half);
+        if (round + 2 < rounds)
+            put(task, "arrive %u %u; ", empty, all);
+    }
+}
+
+/* Each thread writes its own address and reads its neighbour's, and all threads meet after each access. */
+static void dense(struct task *task, uint32_t t)
+{
+    for (uint32_t k = 0; k < task->length; k += 4) {
         put(task, "write %u; sync 0 %u; ", t, task->threads);
         put(task, "read %u; sync 1 %u; ", (t + 1) % task->threads, task->threads);
     }
@@ -101,8 +125,8 @@ static void full(struct task *task, uint32_t t)
 /* Each thread keeps to its own address; the first thread's last command meets the second thread's first. */
 static void sparse(struct task *task, uint32_t t)
 {
-    for (int k = 0; k < LENGTH; k++) {
-        if (t == 0 && k == LENGTH - 1)
+    for (uint32_t k = 0; k < task->length; k++) {
+        if (t == 0 && k == task->length - 1)
             put(task, "arrive 0 2; ");
         else if (t == 1 && k == 0)
             put(task, "sync 0 2; ");
@@ -111,27 +135,63 @@ static void sparse(struct task *task, uint32_t t)
     }
 }
 
-/* All write one address, and none waits: every two commands of different threads race. */
-static void faulty(struct task *task, uint32_t t)
+/*
+ * One address goes from the last thread down to the first, against the order of the rows, and then to the last again. Its first holder waits for
+ * nobody and its last holder hands it to nobody: in these places stands one more access.
+ */
+static void ring(struct task *task, uint32_t t)
+{
+    uint32_t lower = (t + task->threads - 1) % task->threads, laps = task->length / 4;
+    for (uint32_t lap = 0; lap < laps; lap++) {
+        if (lap == 0 && t == task->threads - 1)
+            put(task, "read 0; ");
+        else
+            put(task, "sync %u 2; ", t);
+        put(task, "read 0; write 0; ");
+        if (lap == laps - 1 && t == 0)
+            put(task, "write 0; ");
+        else
+            put(task, "arrive %u 2; ", lower);
+    }
+}
+
+/* All arrive at one barrier again and again, and none waits: with four generations, every two commands of neighbouring ones are a fault. */
+static void reuse(struct task *task, uint32_t t)
 {
     (void)t;
-    for (int k = 0; k < LENGTH; k++)
+    for (uint32_t k = 0; k < task->length; k++)
+        put(task, "arrive 0 %u; ", task->rows / 4);
+}
+
+/* All write one address, and none waits: every two commands of different threads race. */
+static void race(struct task *task, uint32_t t)
+{
+    (void)t;
+    for (uint32_t k = 0; k < task->length; k++)
         put(task, "write 0; ");
 }
 
-static const struct kind kinds[KINDS] = {{"full", 0, full}, {"sparse", 0, sparse}, {"faulty", 11, faulty}};
+static const struct kind kinds[KINDS] = {{"clean", 0, 16, 0, clean}, {"dense", 0, 8, 0, dense}, {"sparse", 0, 8, 0, sparse},
+                                         {"ring", 0, 0, 16, ring}, {"reuse", 10, 8, 0, reuse}, {"race", 11, 8, 0, race}};
 
 static uint32_t total(const struct task *task)
 {
-    return task->kind->verdict == 0 ? 0 : LENGTH * LENGTH * task->threads * (task->threads - 1) / 2;
+    switch (task->kind->verdict) {
+    case 10:
+        return 3 * (task->rows / 4) * (task->rows / 4);
+    case 11:
+        return task->length * task->length * task->threads * (task->threads - 1) / 2;
+    default:
+        return 0;
+    }
 }
 
 /* ---- calls */
 
-static uint32_t review(int archive, struct task *task, size_t steps)
+static uint32_t review(__typeof__(&probe_review) door, struct task *task, size_t steps)
 {
-    return archives[archive].review(task->commands, 3 * task->rows, task->lengths, task->threads, task->schedule, steps,
-                                    task->relation, WORDS, task->generations, COMMANDS, task->answer, ANSWER);
+    return door(task->commands, 3 * task->rows, task->lengths, task->threads, task->schedule, steps, task->rooms.relation, WORDS,
+                task->rooms.generations, COMMANDS, task->rooms.answer, ANSWER);
 }
 
 static uint32_t call(int archive, enum part part, struct task *task)
@@ -139,22 +199,22 @@ static uint32_t call(int archive, enum part part, struct task *task)
     switch (part) {
     case READING:
         return archives[archive].read((const uint8_t *)task->text, task->bytes, task->commands, 3 * COMMANDS, task->lengths,
-                                      THREADS, task->answer, ANSWER);
+                                      THREADS, task->rooms.answer, ANSWER);
     case WRITING:
         return archives[archive].schedule(task->commands, 3 * task->rows, task->lengths, task->threads, task->schedule,
-                                          COMMANDS, task->answer, ANSWER);
+                                          COMMANDS, task->rooms.answer, ANSWER);
     case REPLAY:
-        return review(archive, task, task->rows - 1);
-    case CLOSING:
-        return archives[archive].close(task->relation, WORDS, task->rows);
+        return review(archives[archive].review, task, task->rows - 1);
+    case REVIEW:
+        return review(archives[archive].review, task, task->rows);
     default:
-        return review(archive, task, task->rows);
+        return review(plain_review, task, task->rows);
     }
 }
 
 static uint32_t answered(enum part part, const struct task *task)
 {
-    const uint32_t answers[PARTS] = {0, 0, 6, 1, task->kind->verdict};
+    const uint32_t answers[PARTS] = {0, 0, 6, task->kind->verdict, task->kind->verdict};
     return answers[part];
 }
 
@@ -162,56 +222,69 @@ static uint32_t answered(enum part part, const struct task *task)
 
 static int is_edge(const struct task *task, uint32_t i, uint32_t j)
 {
-    const uint32_t *a = task->commands + 3 * i, *b = task->commands + 3 * j;
-    int next = j == i + 1 && i / LENGTH == j / LENGTH;
-    int meets = a[0] >= ARRIVE && b[0] == SYNC && a[1] == b[1] && task->generations[i] == task->generations[j];
+    const uint32_t *a = task->commands + 3 * i, *b = task->commands + 3 * j, *generations = task->first.generations;
+    int next = j == i + 1 && i / task->length == j / task->length;
+    int meets = a[0] >= ARRIVE && b[0] == SYNC && a[1] == b[1] && generations[i] == generations[j];
     return i == j || next || meets;
 }
 
 static void draw(struct task *task)
 {
     size_t width = (task->rows + 31) / 32;
-    memset(task->edges, 0, sizeof task->edges);
+    memset(task->rooms.relation, 0, task->rows * width * sizeof *task->rooms.relation);
     for (uint32_t i = 0; i < task->rows; i++)
         for (uint32_t j = 0; j < task->rows; j++)
             if (is_edge(task, i, j))
-                task->edges[i * width + j / 32] |= (uint32_t)1 << j % 32;
+                task->rooms.relation[i * width + j / 32] |= (uint32_t)1 << j % 32;
 }
 
 /* ---- a text made, every part called once, and all that they tell checked */
 
 static void try_part(int archive, struct task *task, enum part part, const char *what, uint32_t expected, int at)
 {
-    memset(task->answer, 0xff, sizeof task->answer);
+    memset(&task->rooms, FILLING, sizeof task->rooms);
     expect(task, "an answer", call(archive, part, task), answered(part, task));
-    expect(task, what, task->answer[at], expected);
+    expect(task, what, task->rooms.answer[at], expected);
 }
 
-/* The closed edges must be the table that the first archive's review left, and so must that of every other review. */
+/* A review's verdict and total are the kind's. All that it leaves in the three rooms, to their ends, is what the first archive's review left. */
+static void try_review(int archive, struct task *task, enum part part, const char *what)
+{
+    try_part(archive, task, part, "the total", total(task), 2);
+    if (archive == NOW && part == REVIEW)
+        task->first = task->rooms;
+    expect(task, what, memcmp(&task->rooms, &task->first, sizeof task->rooms) == 0, 1);
+}
+
+/* The closed edges must be the table that the first archive's review left. */
+static void try_closing(int archive, struct task *task)
+{
+    memset(&task->rooms, FILLING, sizeof task->rooms);
+    draw(task);
+    expect(task, "the answer of closing", archives[archive].close(task->rooms.relation, WORDS, task->rows), 1);
+    int same = memcmp(task->rooms.relation, task->first.relation, sizeof task->rooms.relation) == 0;
+    expect(task, "closed edges equal to the review's table", (uint32_t)same, 1);
+}
+
 static void try_archive(int archive, struct task *task)
 {
     try_part(archive, task, READING, "the number of commands", task->rows, 2);
-    expect(task, "the number of threads", task->answer[3], task->threads);
+    expect(task, "the number of threads", task->rooms.answer[3], task->threads);
     for (uint32_t t = 0; t < task->threads; t++)
-        expect(task, "a thread's length", task->lengths[t], LENGTH);
+        expect(task, "a thread's length", task->lengths[t], task->length);
     try_part(archive, task, WRITING, "the schedule's length", task->rows, 2);
     try_part(archive, task, REPLAY, "the number of steps given", task->rows - 1, 0);
-    memset(task->relation, 0, sizeof task->relation);
-    try_part(archive, task, REVIEW, "the total", total(task), 2);
-    if (archive == NOW)
-        memcpy(task->reviewed, task->relation, sizeof task->relation);
-    expect(task, "the same table by both reviews", memcmp(task->relation, task->reviewed, sizeof task->relation) == 0, 1);
-    draw(task);
-    memcpy(task->relation, task->edges, sizeof task->relation);
-    expect(task, "the answer of closing", call(archive, CLOSING, task), 1);
-    expect(task, "closed edges equal the review's", memcmp(task->relation, task->reviewed, sizeof task->relation) == 0, 1);
+    try_review(archive, task, REVIEW, "the same rooms by both archives");
+    try_review(archive, task, ORDINARY, "the same rooms by ordinary C");
+    try_closing(archive, task);
 }
 
 static void make(struct task *task, const struct kind *kind, uint32_t rows)
 {
     task->kind = kind;
     task->rows = rows;
-    task->threads = rows / LENGTH;
+    task->threads = kind->threads > 0 ? kind->threads : rows / kind->length;
+    task->length = rows / task->threads;
     for (uint32_t t = 0; t < task->threads; t++) {
         put(task, t == 0 ? "" : " || ");
         kind->thread(task, t);
@@ -230,31 +303,36 @@ static double now(void)
     return (double)t.tv_sec + (double)t.tv_nsec * 1e-9;
 }
 
-/* The seconds of one call. The edges are put anew into the relation room before each closing, outside the time. */
+/* The seconds of one call. */
 static double sample(int archive, enum part part, struct task *task)
 {
-    double spent = 0;
+    double start = now(), spent = 0;
     int calls = 0;
     while (spent < SAMPLE) {
-        if (part == CLOSING)
-            memcpy(task->relation, task->edges, sizeof task->relation);
-        double start = now();
-        uint32_t answer = call(archive, part, task);
-        spent += now() - start;
+        expect(task, "a timed answer", call(archive, part, task), answered(part, task));
         calls++;
-        expect(task, "a timed answer", answer, answered(part, task));
+        spent = now() - start;
     }
     return spent / calls;
 }
 
-/* One round takes a sample of everything, both archives side by side, so that a change of the machine's load meets all alike. */
+/* Only what is printed: of an archive before its review, and reading and writing at the last size. */
+static int is_timed(int archive, int size, int part)
+{
+    if (archive == THEN)
+        return part == REVIEW;
+    return size == LAST || (part != READING && part != WRITING);
+}
+
+/* One round takes a sample of everything, those that are compared side by side, so that a change of the machine's load meets all alike. */
 static void take_round(int round)
 {
     for (int kind = 0; kind < KINDS; kind++)
         for (int size = 0; size < SIZES; size++)
             for (int part = 0; part < PARTS; part++)
-                for (int archive = NOW; archive < ARCHIVES && (part == REVIEW || size == SIZES - 1); archive++)
-                    times[archive][kind][size][part][round] = sample(archive, (enum part)part, &tasks[kind][size]);
+                for (int archive = NOW; archive < ARCHIVES; archive++)
+                    if (is_timed(archive, size, part))
+                        times[archive][kind][size][part][round] = sample(archive, (enum part)part, &tasks[kind][size]);
 }
 
 static int by_size(const void *a, const void *b)
@@ -290,66 +368,67 @@ static double ratio(const double *a, const double *b)
 
 static void print_method(void)
 {
-    printf("Texts of 64, 128, 256 and 512 commands, 8 to a thread. %d rounds; each takes the time of everything.\n", ROUNDS);
+    printf("Six kinds of text, each of 64, 128, 256 and 512 commands. %d rounds; each takes the time of everything.\n", ROUNDS);
     printf("reading: probe_read. writing: probe_schedule. review: probe_review with the written schedule.\n");
     printf("replay: the same review without the schedule's last step, which stops at verdict 6.\n");
-    printf("closing: probe_close on the edges of happens-before, drawn here; closed, they equalled the review's own table.\n");
-    printf("faults, edges: the rest of the review: drawing the edges and looking for faults.\n");
+    printf("order and faults: the rest of the review. ordinary C: plain_review, the whole review, built at -O3.\n");
+    printf("All reviews of a text left the same answer, sheet, table and generations; its edges, closed by probe_close, were that table.\n");
     printf("A share or ratio is taken within each round; the median over the rounds is printed.\n");
     printf("Compare shares and ratios only: the figures in brackets are this machine's, at this hour.\n");
 }
 
 /* The parts of one round, with the rest of the review in the review's place. Together they are 100. */
-static void share_round(int kind, int round, double shares[PARTS])
+static void share_round(int kind, int round, double shares[ORDINARY])
 {
-    double t[PARTS];
-    for (int part = 0; part < PARTS; part++)
-        t[part] = times[NOW][kind][SIZES - 1][part][round];
+    double t[ORDINARY];
+    for (int part = 0; part < ORDINARY; part++)
+        t[part] = times[NOW][kind][LAST][part][round];
     double all = t[READING] + t[WRITING] + t[REVIEW];
-    t[REVIEW] -= t[REPLAY] + t[CLOSING];
-    for (int part = 0; part < PARTS; part++)
+    t[REVIEW] -= t[REPLAY];
+    for (int part = 0; part < ORDINARY; part++)
         shares[part] = 100 * t[part] / all;
 }
 
 static void print_shares(void)
 {
     printf("\nShares of reading, writing and review together, 512 commands, in percent\n");
-    printf("%-8s%9s%9s%9s%9s%15s\n", "", "reading", "writing", "replay", "closing", "faults, edges");
+    printf("%-8s%9s%9s%9s%18s\n", "", "reading", "writing", "replay", "order and faults");
     for (int kind = 0; kind < KINDS; kind++) {
-        double shares[PARTS][ROUNDS], one[PARTS];
+        double shares[ORDINARY][ROUNDS], one[ORDINARY];
         for (int round = 0; round < ROUNDS; round++) {
             share_round(kind, round, one);
-            for (int part = 0; part < PARTS; part++)
+            for (int part = 0; part < ORDINARY; part++)
                 shares[part][round] = one[part];
         }
         printf("%-8s", kinds[kind].name);
-        for (int part = 0; part < PARTS; part++)
-            printf(part == REVIEW ? "%15.1f\n" : "%9.1f", median(shares[part]));
+        for (int part = 0; part < ORDINARY; part++)
+            printf(part == REVIEW ? "%18.1f\n" : "%9.1f", median(shares[part]));
     }
 }
 
 static void print_growth(void)
 {
-    printf("\nThe review's time as commands grow, as a ratio to 64 commands\n");
-    printf("%-8s%9d%9d%9d%9d%15s%15s\n", "", 64, 128, 256, 512, "(512: ms)", "(middle half)");
+    printf("\nThe review's time as commands grow, as a ratio to 64 commands, and that of 512 as a ratio to 256\n");
+    printf("%-8s%9d%9d%9d%9d%9s%13s%15s\n", "", 64, 128, 256, 512, "512/256", "(512: ms)", "(middle half)");
     for (int kind = 0; kind < KINDS; kind++) {
         printf("%-8s", kinds[kind].name);
         for (int size = 0; size < SIZES; size++)
             printf("%9.1f", ratio(times[NOW][kind][size][REVIEW], times[NOW][kind][0][REVIEW]));
-        const double *last = times[NOW][kind][SIZES - 1][REVIEW];
-        printf("%15.2f%8.2f -%5.2f\n", 1000 * median(last), 1000 * quantile(last, 0.25), 1000 * quantile(last, 0.75));
+        const double *last = times[NOW][kind][LAST][REVIEW];
+        printf("%9.1f%13.3f", ratio(last, times[NOW][kind][LAST - 1][REVIEW]), 1000 * median(last));
+        printf("%8.3f -%6.3f\n", 1000 * quantile(last, 0.25), 1000 * quantile(last, 0.75));
     }
 }
 
-static void print_before(void)
+/* Each kind's times of one part as ratios to the times of our review, at each size. */
+static void print_ratios(const char *title, int archive, enum part part, double unit, int decimals)
 {
-    printf("\nThe time by the archive before, as a ratio to the time now\n");
-    printf("%-8s%9d%9d%9d%9d%19s\n", "review", 64, 128, 256, 512, "closing alone, 512");
+    printf("\n%s\n%-8s%9d%9d%9d%9d\n", title, "", 64, 128, 256, 512);
     for (int kind = 0; kind < KINDS; kind++) {
         printf("%-8s", kinds[kind].name);
         for (int size = 0; size < SIZES; size++)
-            printf("%9.1f", ratio(times[THEN][kind][size][REVIEW], times[NOW][kind][size][REVIEW]));
-        printf("%19.1f\n", ratio(times[THEN][kind][SIZES - 1][CLOSING], times[NOW][kind][SIZES - 1][CLOSING]));
+            printf("%9.*f", decimals, unit * ratio(times[archive][kind][size][part], times[NOW][kind][size][REVIEW]));
+        printf("\n");
     }
 }
 
@@ -363,7 +442,9 @@ int main(void)
     print_method();
     print_shares();
     print_growth();
+    print_ratios("Replay's share of the review, in percent", NOW, REPLAY, 100, 1);
+    print_ratios("Ordinary C's time as a ratio to ours", NOW, ORDINARY, 1, 2);
     if (ARCHIVES > 1)
-        print_before();
+        print_ratios("The review's time by the archive before, as a ratio to the time now", THEN, REVIEW, 1, 2);
     return 0;
 }

@@ -1,8 +1,8 @@
 -- The pairs of a search, one after the other, make the sheet of their list. Assumes nothing.
-use mathlib.Core.Path.{_≡_, refl, ap, _∙_}
+use mathlib.Core.Path.{_≡_, refl, sym, ap, _∙_}
 use mathlib.Core.Bool.{Bool, true, false, cond}
-use mathlib.Core.List.{List, [], _∷_, append-nil}
-use Prim.Native.Nat.{ℕ, zero, suc, _+_, _*_, _≤_}
+use mathlib.Core.List.{List, [], _∷_, _++_, append-nil}
+use Prim.Native.Nat.{ℕ, zero, suc, _+_, _*_, _≤_, _<_}
 use native.Mathlib.Nat.{suc-mul, mul-le-mul}
 use native.Mathlib.Numerals.{add-one}
 use native.Mathlib.Omega.{arith}
@@ -12,27 +12,35 @@ use Rattle.tables.specs.Rows.{rows}
 use Rattle.tables.specs.Rules.{Keeps}
 use Rattle.sheet.specs.declared.Pair.{Pair}
 use Rattle.sheet.specs.declared.Sheet.{Sheet}
-use Rattle.sheet.specs.Sheet.{mostCounted, sheetOf, added, addAll}
-use Rattle.sheet.proofs.Sheets.{addAll-append, addAll-sheet}
+use Rattle.sheet.specs.Sheet.{mostKept, mostCounted, sheetOf, added, addAll}
+use Rattle.sheet.proofs.Sheets.{addAll-append, addAll-from, counted-on, sheet-total}
 use Rattle.faults.specs.declared.faults.Fault.{Fault}
 use Rattle.faults.specs.Faults.{pairOf, faulty, alongRow, allRows, faults}
 
 -- ---- the pairs of a row
 
 module _ (found : ℕ → Bool) (to : ℕ → Pair) where
-  pub row-none : (s : Sheet) → s ≡ addAll s (alongRow found to 0)
-  unfolding addAll alongRow
-  row-none s = refl
-
-  pub row-found : (s t : Sheet) (j : ℕ) → t ≡ addAll s (alongRow found to j) → found j ≡ true → added t (to j) ≡ addAll s (alongRow found to (j + 1))
-  unfolding addAll alongRow
-  row-found s t j e f = rw (add-one, f, addAll-append s (alongRow found to j) (to j ∷ [])) (ap (λ (u : Sheet). added u (to j)) e)
-
-  pub row-passed : (s t : Sheet) (j : ℕ) → t ≡ addAll s (alongRow found to j) → found j ≡ false → t ≡ addAll s (alongRow found to (j + 1))
+  pub along-none : alongRow found to 0 ≡ []
   unfolding alongRow
-  row-passed s t j e f = rw (add-one, f, append-nil (alongRow found to j)) e
+  along-none = refl
 
-  row-length : (j : ℕ) → length (alongRow found to j) ≤ j
+  pub along-found : (j : ℕ) → found j ≡ true → alongRow found to (j + 1) ≡ alongRow found to j ++ to j ∷ []
+  unfolding alongRow
+  along-found j f = rw (add-one, f)
+
+  pub along-passed : (j : ℕ) → found j ≡ false → alongRow found to (suc j) ≡ alongRow found to j
+  unfolding alongRow
+  along-passed j f = rw f (append-nil (alongRow found to j))
+
+  -- one fault more, counted or added
+  pub one-counted : (j n : ℕ) → n ≡ length (alongRow found to j) → found j ≡ true → n + 1 ≡ length (alongRow found to (j + 1))
+  one-counted j n e f = rw (along-found j f) (omega (arith, e, length-append (alongRow found to j) (to j ∷ [])))
+
+  pub one-added : (s t : Sheet) (j : ℕ) → t ≡ addAll s (alongRow found to j) → found j ≡ true → added t (to j) ≡ addAll s (alongRow found to (j + 1))
+  unfolding addAll
+  one-added s t j e f = rw (along-found j f, addAll-append s (alongRow found to j) (to j ∷ [])) (ap (λ (u : Sheet). added u (to j)) e)
+
+  pub row-length : (j : ℕ) → length (alongRow found to j) ≤ j
   unfolding alongRow
   row-length zero = omega arith
   row-length (suc j) = omega (arith, length-append (alongRow found to j) (cond (found j) (to j ∷ []) []), short (found j), row-length j)
@@ -41,36 +49,60 @@ module _ (found : ℕ → Bool) (to : ℕ → Pair) where
       short true = omega arith
       short false = omega arith
 
--- ---- the rows one after the other
+none-left : (ps : List Pair) → length ps ≡ 0 → ps ≡ []
+none-left [] e = refl
+none-left (p ∷ ps) e = absurd (omega arith)
+
+-- ---- the rows one after the other: the sheet of all pairs so far
 
 module _ (found : ℕ → ℕ → Bool) (to : ℕ → ℕ → Pair) (m : ℕ) where
+  abbrev row : ℕ → List Pair
+  row i = alongRow (found i) (to i) m
+
   all-length : (n : ℕ) → length (allRows found to m n) ≤ n * m
   unfolding allRows
   all-length zero = omega arith
-  all-length (suc n) =
-      omega (arith, length-append (allRows found to m n) (alongRow (found n) (to n) m), all-length n, row-length (found n) (to n) m, suc-mul n m)
+  all-length (suc n) = omega (arith, length-append (allRows found to m n) (row n), all-length n, row-length (found n) (to n) m, suc-mul n m)
 
-  pub all-none : (s : Sheet) → s ≡ addAll s (allRows found to m 0)
-  unfolding addAll allRows
-  all-none s = refl
-
-  pub all-more : (s t u : Sheet) (i : ℕ) → t ≡ addAll s (allRows found to m i) → u ≡ addAll t (alongRow (found i) (to i) m)
-      → u ≡ addAll s (allRows found to m (i + 1))
+  pub all-none : sheetOf [] ≡ sheetOf (allRows found to m 0)
   unfolding allRows
-  all-more s t u i e f =
-      rw (add-one, addAll-append s (allRows found to m i) (alongRow (found i) (to i) m)) (f ∙ ap (λ (v : Sheet). addAll v (alongRow (found i) (to i) m)) e)
+  all-none = refl
+
+  all-next : (i : ℕ) → allRows found to m (i + 1) ≡ allRows found to m i ++ row i
+  unfolding allRows
+  all-next i = rw add-one
+
+  module _ (s t : Sheet) (i n : ℕ) (few : m ≤ mostRows) (low : i < m) (e : s ≡ sheetOf (allRows found to m i)) (q : n ≡ length (row i)) where
+    total-is : s .total ≡ length (allRows found to m i)
+    total-is = ap (λ (u : Sheet). u .total) e ∙ sheet-total _
+
+    -- no total wraps
+    pub total-few : s .total + n ≤ mostRows * mostRows
+    total-few =
+        let a = all-length i in
+        let b = row-length (found i) (to i) m in
+        let c : (i + 1) * m ≤ mostRows * mostRows = mul-le-mul {m = i + 1} {n = mostRows} {p = m} {q = mostRows} (omega arith) few in
+        omega (arith, total-is, suc-mul i m, add-one i)
+
+    -- a row with no fault
+    pub row-empty : n ≡ 0 → s ≡ sheetOf (allRows found to m (i + 1))
+    row-empty z = rw (all-next i, none-left _ (sym q ∙ z), append-nil (allRows found to m i)) e
+
+    -- a row whose faults are kept
+    pub row-kept : t ≡ addAll s (row i) → t ≡ sheetOf (allRows found to m (i + 1))
+    unfolding mostRows mostCounted
+    row-kept k = k ∙ rw e (addAll-from _ (row i) (omega (arith, total-few, total-is))) ∙ ap sheetOf (sym (all-next i))
+
+    -- a row whose faults are only counted
+    pub row-counted : mostKept ≤ s .total → record { pairs = s .pairs; total = s .total + n } ≡ sheetOf (allRows found to m (i + 1))
+    row-counted h = rw (all-next i, ← counted-on (allRows found to m i) (row i) (omega (arith, total-is)), e, q, sheet-total)
 
 -- ---- all faults of a kind
 
-module _ {commands lengths : List ℕ} (K : Keeps commands lengths) (g : ℕ → ℕ) (ρ : ℕ → ℕ → Bool) (f : Fault) where
-  pub faults-few : length (faults commands lengths g ρ f) ≤ mostRows * mostRows
-  unfolding faults
-  faults-few =
-      let l = all-length (faulty commands lengths g ρ f) (pairOf f) (rows commands) (rows commands) in
-      let m : rows commands * rows commands ≤ mostRows * mostRows = mul-le-mul (K .few-rows) (K .few-rows) in
-      omega arith
-
-  -- they are few enough to be counted
-  pub faults-sheet : addAll (sheetOf []) (faults commands lengths g ρ f) ≡ sheetOf (faults commands lengths g ρ f)
-  unfolding mostRows mostCounted
-  faults-sheet = addAll-sheet _ (omega (arith, faults-few))
+pub faults-few : {commands lengths : List ℕ} → Keeps commands lengths → (g : ℕ → ℕ) (ρ : ℕ → ℕ → Bool) (f : Fault)
+    → length (faults commands lengths g ρ f) ≤ mostRows * mostRows
+unfolding faults
+faults-few {commands} {lengths} K g ρ f =
+    let l = all-length (faulty commands lengths g ρ f) (pairOf f) (rows commands) (rows commands) in
+    let m : rows commands * rows commands ≤ mostRows * mostRows = mul-le-mul (K .few-rows) (K .few-rows) in
+    omega arith

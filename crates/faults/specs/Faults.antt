@@ -6,6 +6,7 @@ use lib.Dec.{eqb, ltb}
 use lib.ListN.{length}
 use Rattle.tables.specs.Rows.{rows, kind, name, write, arrive, threadOf, isFirst}
 use Rattle.tables.specs.Rules.{Keeps}
+use Rattle.tables.specs.Heads.{Headed}
 use Rattle.sheet.specs.declared.Pair.{Pair}
 use Rattle.faults.specs.declared.faults.Fault.{Fault}
 use Rattle.faults.specs.declared.faults.Fault.the-variants.{Reuse, Race}
@@ -58,15 +59,16 @@ faults commands lengths g ρ f = allRows (faulty commands lengths g ρ f) (pairO
 
 -- ---- what the parts ask for
 
--- rows i and j of tables that pass are there, and their generations
-pub record Looks (commands lengths generations : List ℕ) (i j : ℕ) : Type 0 where
+-- rows i and j of tables that pass are there, their generations and the heads of their threads
+pub record Looks (commands lengths generations heads : List ℕ) (i j : ℕ) : Type 0 where
   pub keeps : Keeps commands lengths
+  pub headed : Headed lengths heads
   pub from : i < rows commands
   pub to : j < rows commands
   pub whole : rows commands ≤ length generations
 
--- row i of tables that pass is there, and all generations
-pub record Searches (commands lengths generations : List ℕ) (i : ℕ) : Type 0 where
+-- tables that pass, with all generations and all heads
+pub record Searches (commands lengths generations heads : List ℕ) : Type 0 where
   pub keeps : Keeps commands lengths
-  pub row : i < rows commands
+  pub headed : Headed lengths heads
   pub whole : rows commands ≤ length generations

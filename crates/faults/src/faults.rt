@@ -1,39 +1,21 @@
-// The reuse test, the race test, and the one ordered search that serves both.
+// The reuse test and the race test.
 ghost use mathlib.Core.Path.{_≡_};
-ghost use Prim.Native.Nat.{_≤_, _<_};
+ghost use Prim.Native.Nat.{_<_};
 ghost use lib.Dec.{eqb};
-ghost use lib.ListN.{length};
-ghost use Rattle.tables.specs.Limits.{mostThreads};
-ghost use Rattle.tables.specs.Rows.{rows, name, isFirst};
+ghost use Rattle.tables.specs.Rows.{rows, name};
 ghost use Rattle.tables.specs.Rules.{Keeps};
+ghost use Rattle.tables.specs.Heads.{Headed};
 ghost use Rattle.relation.specs.Table.{related};
 ghost use Rattle.order.specs.Order.{numberAt, TwoCommands};
-ghost use Rattle.sheet.specs.Sheet.{sheetOf, addAll};
-ghost use Rattle.faults.specs.Faults.{succeeds, reuse, conflict, race, faulty, pairOf, alongRow, faults, Looks, Searches};
-ghost use Rattle.faults.specs.Lists.{Lists};
-use crate::lists::list;
-use crate::lists::wanted;
-use crate::lists::wide;
+ghost use Rattle.faults.specs.Faults.{succeeds, reuse, conflict, race, faulty, pairOf, Looks};
 use relation::related;
 use sheet::Pair;
-use sheet::Sheet;
-use sheet::with_pair;
 use tables::Table;
-use tables::first_row;
-use tables::thread_of;
 
 // What is looked for.
 pub enum Fault {
     Reuse,
     Race,
-}
-
-// Is row c the first of its thread?
-fn is_first(lengths: &[u32], c: usize) -> bool
-    requires { ⌜ length (now lengths) ≤ mostThreads ⌝ }
-    ensures { λ r. ⌜ r ≡ isFirst (now (lengths .entry)) c ⌝ }
-{
-    c == first_row(lengths, thread_of(lengths, c))
 }
 
 // Have i and j the same barrier, or the same address?
@@ -55,23 +37,23 @@ fn succeeds(commands: &[u32], generations: &[u32], c1: usize, c2: usize) -> bool
     both & same_barrier & next
 }
 
-// Is (c1, c2) a reuse fault? `first` says whether c2 is first in its thread.
+// Is (c1, c2) a reuse fault?
 fn is_reuse(
     commands: &[u32],
     lengths: &[u32],
     generations: &[u32],
     relation: &[u32],
-    first: bool,
+    heads: &[usize; Table::ROWS],
     c1: usize,
     c2: usize,
 ) -> bool
-    requires { ⌜ Looks (now commands) (now lengths) (now generations) c1 c2 × (first ≡ isFirst (now lengths) c2) ⌝ }
+    requires { ⌜ Looks (now commands) (now lengths) (now generations) (now heads) c1 c2 ⌝ }
     ensures { λ r. ⌜ r ≡ reuse (now (commands .entry)) (now (lengths .entry)) (numberAt (now (generations .entry))) (related (now (relation .entry)) (rows (now (commands .entry)))) c1 c2 ⌝ }
 {
     if !succeeds(commands, generations, c1, c2) {
         return false;
     }
-    if first {
+    if c2 == heads[c2] {
         return true;
     }
     let m = (commands.len() / 3) as u32;
@@ -91,8 +73,15 @@ fn conflict(commands: &[u32], x: usize, y: usize) -> bool
 }
 
 // Is (x, y) a race?
-fn is_race(commands: &[u32], lengths: &[u32], relation: &[u32], x: usize, y: usize) -> bool
-    requires { ⌜ Keeps (now commands) (now lengths) × (x < rows (now commands)) × (y < rows (now commands)) ⌝ }
+fn is_race(
+    commands: &[u32],
+    lengths: &[u32],
+    relation: &[u32],
+    heads: &[usize; Table::ROWS],
+    x: usize,
+    y: usize,
+) -> bool
+    requires { ⌜ Keeps (now commands) (now lengths) × Headed (now lengths) (now heads) × (x < rows (now commands)) × (y < rows (now commands)) ⌝ }
     ensures { λ r. ⌜ r ≡ race (now (commands .entry)) (now (lengths .entry)) (related (now (relation .entry)) (rows (now (commands .entry)))) x y ⌝ }
 {
     if x >= y {
@@ -101,18 +90,15 @@ fn is_race(commands: &[u32], lengths: &[u32], relation: &[u32], x: usize, y: usi
     if !conflict(commands, x, y) {
         return false;
     }
+    if heads[x] == heads[y] {
+        return false;
+    }
     let m = (commands.len() / 3) as u32;
-    if related(relation, m, x as u32, y as u32) {
-        return false;
-    }
-    if related(relation, m, y as u32, x as u32) {
-        return false;
-    }
-    thread_of(lengths, x) != thread_of(lengths, y)
+    !related(relation, m, x as u32, y as u32) & !related(relation, m, y as u32, x as u32)
 }
 
 // The search goes by an outer number i and an inner number j. For reuse i is c2 and j is c1; for races i is x and j is y.
-fn pair_of(fault: Fault, i: usize, j: usize) -> Pair
+pub(crate) fn pair_of(fault: Fault, i: usize, j: usize) -> Pair
     ensures { λ r. ⌜ r ≡ pairOf fault i j ⌝ }
 {
     match fault {
@@ -127,108 +113,22 @@ fn pair_of(fault: Fault, i: usize, j: usize) -> Pair
     }
 }
 
-fn is_fault(
+// Is the pair of outer number i and inner number j such a fault?
+pub(crate) fn is_fault(
     fault: Fault,
     commands: &[u32],
     lengths: &[u32],
     generations: &[u32],
     relation: &[u32],
-    first: bool,
+    heads: &[usize; Table::ROWS],
     i: usize,
     j: usize,
 ) -> bool
-    requires { ⌜ Looks (now commands) (now lengths) (now generations) i j × (first ≡ isFirst (now lengths) i) ⌝ }
+    requires { ⌜ Looks (now commands) (now lengths) (now generations) (now heads) i j ⌝ }
     ensures { λ r. ⌜ r ≡ faulty (now (commands .entry)) (now (lengths .entry)) (numberAt (now (generations .entry))) (related (now (relation .entry)) (rows (now (commands .entry)))) fault i j ⌝ }
 {
     match fault {
-        Fault::Reuse => is_reuse(commands, lengths, generations, relation, first, j, i),
-        Fault::Race => is_race(commands, lengths, relation, i, j),
+        Fault::Reuse => is_reuse(commands, lengths, generations, relation, heads, j, i),
+        Fault::Race => is_race(commands, lengths, relation, heads, i, j),
     }
-}
-
-// The faults of outer number i, added to a sheet: those that its list has.
-fn search_row(
-    sheet: Sheet,
-    fault: Fault,
-    commands: &[u32],
-    lengths: &[u32],
-    generations: &[u32],
-    relation: &[u32],
-    firsts: &[u32],
-    nexts: &[u32],
-    i: usize,
-) -> Sheet
-    requires { ⌜ Searches (now commands) (now lengths) (now generations) i × Lists (now commands) (now generations) (now firsts) (now nexts) 0 ⌝ }
-    ensures { λ r. ⌜ r ≡ addAll sheet (alongRow (faulty (now (commands .entry)) (now (lengths .entry)) (numberAt (now (generations .entry))) (related (now (relation .entry)) (rows (now (commands .entry)))) fault i) (pairOf fault i) (rows (now (commands .entry)))) ⌝ }
-{
-    let m = commands.len() / 3;
-    let first = is_first(lengths, i);
-    let k = wanted(fault, commands, generations, i);
-    let mut found = sheet;
-    let mut j = wide(firsts[k]);
-    while j < m {
-        if is_fault(fault, commands, lengths, generations, relation, first, i, j) {
-            found = with_pair(found, pair_of(fault, i, j));
-        }
-        j = wide(nexts[j]);
-    }
-    found
-}
-
-// All faults of a kind, in their order, by lists.
-fn search_all(
-    fault: Fault,
-    commands: &[u32],
-    lengths: &[u32],
-    generations: &[u32],
-    relation: &[u32],
-    firsts: &[u32],
-    nexts: &[u32],
-) -> Sheet
-    requires { ⌜ (Keeps (now commands) (now lengths) × (rows (now commands) ≤ length (now generations))) × Lists (now commands) (now generations) (now firsts) (now nexts) 0 ⌝ }
-    ensures { λ r. ⌜ r ≡ sheetOf (faults (now (commands .entry)) (now (lengths .entry)) (numberAt (now (generations .entry))) (related (now (relation .entry)) (rows (now (commands .entry)))) fault) ⌝ }
-{
-    let m = commands.len() / 3;
-    let mut found = Sheet::empty();
-    let mut i = 0;
-    while i < m {
-        found = search_row(
-            found,
-            fault,
-            commands,
-            lengths,
-            generations,
-            relation,
-            firsts,
-            nexts,
-            i,
-        );
-        i += 1;
-    }
-    found
-}
-
-// All faults of a kind, in their order.
-pub(crate) fn search(
-    fault: Fault,
-    commands: &[u32],
-    lengths: &[u32],
-    generations: &[u32],
-    relation: &[u32],
-) -> Sheet
-    requires { ⌜ Keeps (now commands) (now lengths) × (rows (now commands) ≤ length (now generations)) ⌝ }
-    ensures { λ r. ⌜ r ≡ sheetOf (faults (now (commands .entry)) (now (lengths .entry)) (numberAt (now (generations .entry))) (related (now (relation .entry)) (rows (now (commands .entry)))) fault) ⌝ }
-{
-    let mut firsts = [512u32; 12288];
-    let mut nexts = [0u32; 512];
-    list(commands, generations, &mut firsts, &mut nexts);
-    search_all(
-        fault,
-        commands,
-        lengths,
-        generations,
-        relation,
-        &firsts,
-        &nexts,
-    )
 }

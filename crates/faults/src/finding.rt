@@ -1,20 +1,20 @@
 // What is found: refusals 1 to 4, or the verdict of the search, with the sheet.
 ghost use mathlib.Core.Path.{_≡_};
 ghost use mathlib.Core.List.{[]};
-ghost use lib.ListN.{length};
-ghost use Prim.Native.Nat.{_≤_};
 ghost use Rattle.tables.specs.Rows.{rows};
-ghost use Rattle.tables.specs.Rules.{Keeps};
 ghost use Rattle.tables.specs.Verdicts.{numbered};
 ghost use Rattle.relation.specs.Table.{related};
 ghost use Rattle.sheet.specs.Sheet.{sheetOf};
 ghost use Rattle.order.specs.Order.{numberAt};
+ghost use Rattle.faults.specs.Faults.{Searches};
 ghost use Rattle.faults.specs.Findings.{Looked, Finds};
 use crate::faults::Fault;
-use crate::faults::search;
+use crate::search::search;
 use order::refuse;
 use sheet::Sheet;
+use tables::Table;
 use tables::Verdict;
+use tables::put_heads;
 
 pub struct Finding {
     pub verdict: Verdict,
@@ -32,11 +32,17 @@ pub fn bare(verdict: Verdict) -> Finding
 }
 
 // 10, 11 or 0, with the sheet. Races are looked for only when there is no reuse fault.
-fn look(commands: &[u32], lengths: &[u32], generations: &[u32], relation: &[u32]) -> Finding
-    requires { ⌜ Keeps (now commands) (now lengths) × (rows (now commands) ≤ length (now generations)) ⌝ }
+fn look(
+    commands: &[u32],
+    lengths: &[u32],
+    generations: &[u32],
+    relation: &[u32],
+    heads: &[usize; Table::ROWS],
+) -> Finding
+    requires { ⌜ Searches (now commands) (now lengths) (now generations) (now heads) ⌝ }
     ensures { λ r. ⌜ Looked (now (commands .entry)) (now (lengths .entry)) (numberAt (now (generations .entry))) (related (now (relation .entry)) (rows (now (commands .entry)))) r ⌝ }
 {
-    let reuses = search(Fault::Reuse, commands, lengths, generations, relation);
+    let reuses = search(Fault::Reuse, commands, lengths, generations, relation, heads);
     if reuses.total != 0 {
         let pair = reuses.pairs[0];
         return Finding {
@@ -44,7 +50,7 @@ fn look(commands: &[u32], lengths: &[u32], generations: &[u32], relation: &[u32]
             sheet: reuses,
         };
     }
-    let races = search(Fault::Race, commands, lengths, generations, relation);
+    let races = search(Fault::Race, commands, lengths, generations, relation, heads);
     if races.total != 0 {
         let pair = races.pairs[0];
         return Finding {
@@ -68,5 +74,7 @@ pub fn find_faults(
     if refusal.number().number != 0 {
         return bare(refusal);
     }
-    look(commands, lengths, generations, relation)
+    let mut heads = [0; Table::ROWS];
+    put_heads(lengths, &mut heads);
+    look(commands, lengths, generations, relation, &heads)
 }

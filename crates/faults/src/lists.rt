@@ -1,52 +1,87 @@
-// Lists of the commands that a fault can pair.
+// Lists of the commands that a fault can pair, so that a search walks no others.
 ghost use mathlib.Core.Path.{_≡_};
-ghost use Prim.Native.Nat.{_<_};
+ghost use Prim.Native.Nat.{_<_, _^_};
+ghost use Rattle.tables.specs.Limits.{mostRows};
+ghost use Rattle.tables.specs.Rows.{rows};
 ghost use Rattle.order.specs.Order.{Command};
-ghost use Rattle.faults.specs.Lists.{lists, key, wanted, Lists, Unlisted};
+ghost use Rattle.faults.specs.Lists.{listed, meeting, key, Lists, Candidate, Unlisted};
 use crate::faults::Fault;
 use tables::Table;
 
-pub(crate) fn wide(x: u32) -> usize
-    ensures { λ r. ⌜ r ≡ x ⌝ }
+// Can such a fault pair command c?
+fn listed(fault: Fault, commands: &[u32], c: usize) -> bool
+    requires { ⌜ c < rows (now commands) ⌝ }
+    ensures { λ r. ⌜ r ≡ listed fault (now (commands .entry)) c ⌝ }
 {
-    x as usize
-}
-
-// The list of a command.
-fn key(commands: &[u32], generations: &[u32], c: usize) -> usize
-    requires { ⌜ Command (now commands) (now generations) c ⌝ }
-    ensures { λ r. ⌜ (r ≡ key (now (commands .entry)) (now (generations .entry)) c) × (r < lists) ⌝ }
-{
-    let name = wide(commands[c * 3 + 1]);
-    if Table::ARRIVE <= commands[c * 3] {
-        return 4096 + name % 16 * 512 + wide(generations[c]) % 512;
-    }
-    name % 4096
-}
-
-// The list in which outer number i finds its faults.
-pub(crate) fn wanted(fault: Fault, commands: &[u32], generations: &[u32], i: usize) -> usize
-    requires { ⌜ Command (now commands) (now generations) i ⌝ }
-    ensures { λ r. ⌜ (r ≡ wanted fault (now (commands .entry)) (now (generations .entry)) i) × (r < lists) ⌝ }
-{
-    let name = wide(commands[i * 3 + 1]);
-    let generation = wide(generations[i]);
+    let kind = commands[c * 3];
     match fault {
-        Fault::Reuse => 4096 + name % 16 * 512 + (generation % 512 + 511) % 512,
-        Fault::Race => name % 4096,
+        Fault::Reuse => Table::ARRIVE <= kind,
+        Fault::Race => kind < Table::ARRIVE,
+    }
+}
+
+// The list of a barrier and generation.
+fn meeting(barrier: u32, generation: usize) -> usize
+    requires { ⌜ generation < 2 ^ 33 ⌝ }
+    ensures { λ r. ⌜ (r ≡ meeting barrier generation) × (r < mostRows) ⌝ }
+{
+    (barrier as usize * (Table::ROWS / Table::BARRIERS) + generation) % Table::ROWS
+}
+
+// The list of command c.
+fn key(fault: Fault, commands: &[u32], generations: &[u32], c: usize) -> usize
+    requires { ⌜ Command (now commands) (now generations) c ⌝ }
+    ensures { λ r. ⌜ (r ≡ key fault (now (commands .entry)) (now (generations .entry)) c) × (r < mostRows) ⌝ }
+{
+    let name = commands[c * 3 + 1];
+    match fault {
+        Fault::Reuse => meeting(name, generations[c] as usize),
+        Fault::Race => name as usize % Table::ROWS,
     }
 }
 
 // Each command is put in front of its list, from the last to the first.
-pub(crate) fn list(commands: &[u32], generations: &[u32], firsts: &mut [u32], nexts: &mut [u32])
-    requires { ⌜ Unlisted (now commands) (now generations) (now firsts) (now nexts) ⌝ }
-    ensures { λ r. ⌜ Lists (now (commands .entry)) (now (generations .entry)) (now (firsts .exit)) (now (nexts .exit)) 0 ⌝ }
+pub(crate) fn list(
+    fault: Fault,
+    commands: &[u32],
+    generations: &[u32],
+    fronts: &mut [usize],
+    nexts: &mut [usize],
+)
+    requires { ⌜ Unlisted (now commands) (now generations) (now fronts) (now nexts) ⌝ }
+    ensures { λ r. ⌜ Lists fault (now (commands .entry)) (now (generations .entry)) (now (fronts .exit)) (now (nexts .exit)) 0 ⌝ }
 {
     let mut c = commands.len() / 3;
     while 0 < c {
         c -= 1;
-        let k = key(commands, generations, c);
-        nexts[c] = firsts[k];
-        firsts[k] = c as u32;
+        if listed(fault, commands, c) {
+            let k = key(fault, commands, generations, c);
+            nexts[c] = fronts[k];
+            fronts[k] = c;
+        }
+    }
+}
+
+// The first candidate of outer number i. For reuse it is the front of the list of the generation before; for races, whose pairs go upward, it is the next after i.
+pub(crate) fn first_candidate(
+    fault: Fault,
+    commands: &[u32],
+    generations: &[u32],
+    fronts: &[usize; Table::ROWS],
+    nexts: &[usize; Table::ROWS],
+    i: usize,
+) -> usize
+    requires { ⌜ Command (now commands) (now generations) i × Lists fault (now commands) (now generations) (now fronts) (now nexts) 0 ⌝ }
+    ensures { λ r. ⌜ Candidate fault (now (commands .entry)) (now (generations .entry)) i 0 r ⌝ }
+{
+    if !listed(fault, commands, i) {
+        return Table::ROWS;
+    }
+    match fault {
+        Fault::Reuse => {
+            let before = generations[i] as usize + (Table::ROWS - 1);
+            fronts[meeting(commands[i * 3 + 1], before)]
+        }
+        Fault::Race => nexts[i],
     }
 }

@@ -1,22 +1,14 @@
 // The edges of happens-before over offered generations.
 ghost use mathlib.Core.Path.{_≡_};
-ghost use Prim.Native.Nat.{_≤_, _<_};
+ghost use Prim.Native.Nat.{_<_};
 ghost use lib.Dec.{eqb};
-ghost use lib.ListN.{length};
-ghost use Rattle.tables.specs.Limits.{mostThreads};
-ghost use Rattle.tables.specs.Rows.{rows, name, isFirst};
-ghost use Rattle.order.specs.Order.{numberAt, meets, edges, TwoCommands};
+ghost use Rattle.tables.specs.Heads.{Headed};
+ghost use Rattle.tables.specs.Rows.{rows, name};
+ghost use Rattle.tables.specs.Rules.{Keeps};
+ghost use Rattle.schedules.specs.Order.{edge};
+ghost use Rattle.replay.specs.Program.{program};
+ghost use Rattle.order.specs.Order.{numberAt, meets, TwoCommands};
 use tables::Table;
-use tables::first_row;
-use tables::thread_of;
-
-// Is row c the first of its thread?
-fn is_first(lengths: &[u32], c: usize) -> bool
-    requires { ⌜ length (now lengths) ≤ mostThreads ⌝ }
-    ensures { λ r. ⌜ r ≡ isFirst (now (lengths .entry)) c ⌝ }
-{
-    c == first_row(lengths, thread_of(lengths, c))
-}
 
 // Have i and j the same barrier, or the same address?
 fn same_name(commands: &[u32], i: usize, j: usize) -> bool
@@ -38,22 +30,20 @@ pub(crate) fn meets(commands: &[u32], generations: &[u32], i: usize, j: usize) -
     registers & syncs & same_barrier & same_generation
 }
 
-// Is j the same command as i, its thread's next, or one that i meets?
+// Is j its thread's next after i, or one that i meets?
 pub(crate) fn edge(
     commands: &[u32],
     lengths: &[u32],
     generations: &[u32],
+    heads: &[usize; Table::ROWS],
     i: usize,
     j: usize,
 ) -> bool
-    requires { ⌜ (length (now lengths) ≤ mostThreads) × TwoCommands (now commands) (now generations) i j ⌝ }
-    ensures { λ r. ⌜ r ≡ edges (now (commands .entry)) (now (lengths .entry)) (numberAt (now (generations .entry))) i j ⌝ }
+    requires { ⌜ Keeps (now commands) (now lengths) × Headed (now lengths) (now heads) × TwoCommands (now commands) (now generations) i j ⌝ }
+    ensures { λ r. ⌜ r ≡ edge (program (now (commands .entry)) (now (lengths .entry))) (numberAt (now (generations .entry))) i j ⌝ }
 {
-    if i == j {
-        return true;
-    }
     if j == i + 1 {
-        if !is_first(lengths, j) {
+        if j != heads[j] {
             return true;
         }
     }

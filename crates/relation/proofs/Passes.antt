@@ -2,42 +2,45 @@
 use mathlib.Core.Path.{_≡_, refl, sym, ap, subst, _∙_}
 use mathlib.Core.Logic.{_⊎_, inr, ⊎-elim, by-cases, _≢_}
 use mathlib.Core.Bool.{Bool, true, false, _||_}
-use mathlib.Core.List.{List}
-use Prim.Native.Nat.{ℕ, _≤_, _<_}
+use mathlib.Core.List.{List, [], _∷_}
+use Prim.Native.Nat.{ℕ, suc, _*_, _-_, _^_, _≤_, _<_}
 use native.Mathlib.Decide.{ℕ-discrete, decLt}
 use native.Mathlib.Omega.{arith}
-use lib.ListN.{length}
+use lib.ListN.{length, getD}
 use Rattle.relation.specs.Chains.{Reach, here, goes}
 use Rattle.relation.specs.Bits.{bitAt, sum, RowIs, RowJoined, joined}
 use Rattle.relation.specs.Table.{width, words, Holds, Joins}
-use Rattle.relation.specs.Passes.{Joined, none, more, Pass, Takes, Within}
+use Rattle.relation.specs.Passes.{Joined, none, more, Takes, Pass, At, Within}
 use Rattle.relation.proofs.Truth.{split, isnt, clashing, either, neither, left, right}
 use Rattle.relation.proofs.Chains.{reach-join}
 use Rattle.relation.proofs.Rows.{other-row}
-use Rattle.relation.proofs.Rooms.{wide, row-in, place-in}
+use Rattle.relation.proofs.Rooms.{Words, wide, row-in, place-in}
 
 -- ---- passes
 
-module _ {R : ℕ → ℕ → Type 0} {m : ℕ} where
-  pub joined-join : {a b c : List ℕ} → Joined R m a b → Joined R m b c → Joined R m a c
+module _ {E : ℕ → ℕ → Type 0} {m : ℕ} where
+  pub joined-join : {a b c : List ℕ} → Joined E m a b → Joined E m b c → Joined E m a c
   joined-join p none = p
   joined-join p (more q li lk e N) = more (joined-join p q) li lk e N
 
-  pub joined-length : {a b : List ℕ} → Joined R m a b → length b ≡ length a
+  pub joined-length : {a b : List ℕ} → Joined E m a b → length b ≡ length a
   joined-length none = refl
   joined-length (more q li lk e N) = N .len ∙ joined-length q
 
-  pub pass-length : {a b : List ℕ} {x : Bool} → Pass R m a b x → length b ≡ length a
-  pass-length P = joined-length (P .joins)
+  -- nothing is joined where no pair that is tried has an edge
+  pub pass-none : {T : ℕ → ℕ → Type 0} {a : List ℕ} → ((i k : ℕ) → T i k → E i k → ⊥) → Pass E m T a a false
+  pass-none n = record { joins = none; still = λ f. refl; takes = λ f i k t e. absurd (n i k t e); grown = λ t. clashing t refl }
 
-  pub pass-none : {a : List ℕ} → Pass R m a a false
-  pass-none = record { joins = none; still = λ e. refl; grown = λ e. clashing e refl }
-
-  pub pass-join : {a b c : List ℕ} {x y : Bool} → Pass R m a b x → Pass R m b c y → Pass R m a c (x || y)
-  pass-join {a} {b} {c} {x} {y} P Q =
+  -- two passes, and all that one or the other tried
+  pub pass-join : {S T U : ℕ → ℕ → Type 0} {a b c : List ℕ} {x y : Bool} → Pass E m S a b x → Pass E m T b c y
+      → ((i k : ℕ) → U i k → S i k ⊎ T i k) → Pass E m U a c (x || y)
+  pass-join {S} {T} {U} {a} {b} {c} {x} {y} P Q cover =
       record {
         joins = joined-join (P .joins) (Q .joins);
         still = λ e. let (f, g) = neither x y e in Q .still g ∙ P .still f;
+        takes = λ e i k u d.
+            let (f, g) = neither x y e in
+            ⊎-elim (λ (s : S i k). P .takes f i k s d) (λ (t : T i k). subst (λ (r : List ℕ). Takes r m i k) (P .still f) (Q .takes g i k t d)) (cover i k u);
         grown = λ e.
             ⊎-elim
             (λ (f : x ≡ true). let l = P .grown f in ⊎-elim (λ (g : y ≡ true). omega (arith, Q .grown g)) (λ (g : y ≡ false). omega (arith, ap sum (Q .still g))) (split y))
@@ -45,29 +48,40 @@ module _ {R : ℕ → ℕ → Type 0} {m : ℕ} where
             (split x);
       }
 
--- what one door does, where there is room
-module _ {m : ℕ} {b a : List ℕ} {i k : ℕ} {said : Bool} (fits : words m ≤ length b) (li : i < m) (lk : k < m) (J : Joins b a m i k said) where
-  row-joined : RowJoined b a (width m) i k said
-  row-joined = J .within (place-in (length b) m i k (record { fits = fits; from = li; to = lk }))
-
-  pub pass-one : {R : ℕ → ℕ → Type 0} → R i k → Pass R m b a said
-  pass-one e = let N = row-joined in record { joins = more none li lk e (N .row); still = N .still; grown = N .grown }
-
-  pub took : said ≡ false → Takes b m i k
-  took f =
-      let N = row-joined in
-      record { bits = λ j lj t. ap (λ (r : List ℕ). bitAt r (width m) i j) (sym (N .still f)) ∙ N .row .bits j lj ∙ right (bitAt b (width m) i j) _ t }
-
-pub takes-self : {r : List ℕ} {m i : ℕ} → Takes r m i i
-takes-self = record { bits = λ j lj t. t }
+  -- one join, where there is room
+  pub pass-one : {b a : List ℕ} {i k : ℕ} {said : Bool} → words m ≤ length b → i < m → k < m → E i k → Joins b a m i k said → Pass E m (At i k) b a said
+  pass-one {b} {a} {i} {k} {said} fits li lk e J =
+      let N : RowJoined b a (width m) i k said = J .within (place-in (length b) m i k (record { fits = fits; from = li; to = lk })) in
+      record {
+        joins = more none li lk e (N .row);
+        still = N .still;
+        takes = λ f x y t d.
+            rw (t .0, t .1)
+            (record { bits = λ j lj s. ap (λ (r : List ℕ). bitAt r (width m) i j) (sym (N .still f)) ∙ N .row .bits j lj ∙ right (bitAt b (width m) i j) _ s });
+        grown = N .grown;
+      }
 
 pub takes-join : {r : List ℕ} {m i k j : ℕ} → Takes r m i k → Takes r m k j → Takes r m i j
 takes-join A B = record { bits = λ y ly t. A .bits y ly (B .bits y ly t) }
 
+-- ---- passes come to an end: words grow, and no further than they can
+
+sum-small : (l : List ℕ) → Words l → sum l ≤ 2 ^ 32 * length l
+unfolding sum
+sum-small [] h = omega arith
+sum-small (x ∷ l) h = let e = sum-small l (λ p. h (suc p)) in omega (arith, h 0)
+
+-- what is left to grow
+abbrev pub left-to-grow : List ℕ → ℕ
+left-to-grow l = 2 ^ 32 * length l - sum l
+
+pub grows : {E T : ℕ → ℕ → Type 0} {m : ℕ} {b a : List ℕ} {said : Bool} → Words a → said ≡ true → Pass E m T b a said → left-to-grow a < left-to-grow b
+grows {a = a} h t P = let l = P .grown t in let k = sum-small a h in rw (sym (joined-length (P .joins))) (omega arith)
+
 -- ---- sound
 
 module _ {m : ℕ} {E : ℕ → ℕ → Type 0} where
-  one-within : {b r s : List ℕ} {i k : ℕ} → Within b r m (Reach E) → i < m → k < m → Reach E i k → RowIs r s (width m) i (joined r (width m) i k)
+  one-within : {b r s : List ℕ} {i k : ℕ} → Within b r m (Reach E) → i < m → k < m → E i k → RowIs r s (width m) i (joined r (width m) i k)
       → Within b s m (Reach E)
   one-within {b} {r} {s} {i} {k} W li lk e N =
       record {
@@ -83,18 +97,15 @@ module _ {m : ℕ} {E : ℕ → ℕ → Type 0} where
             ⊎-elim (λ (f : bitAt r (width m) i y ≡ true). rw (sym q) (W .sound i y li ly f))
             (λ (f : bitAt r (width m) k y ≡ true).
             let (l, p) = W .sound k y lk ly f in
-            (l, rw (sym q) (reach-join e p)))
+            (l, rw (sym q) (reach-join (goes here e) p)))
             (either _ _ (sym (N .bits y ly) ∙ u)))
             (λ (n : i ≢ x). W .sound x y lx ly (sym (other-row r s (width m) i x y (N .outside) n ly) ∙ t));
         kept = λ p h. N .outside p (inr (omega (arith, row-in (words m) (width m) m i (omega arith) li))) ∙ W .kept p h;
       }
 
-  pub joined-within : {b r s : List ℕ} → Within b r m (Reach E) → Joined (Reach E) m r s → Within b s m (Reach E)
+  pub joined-within : {b r s : List ℕ} → Within b r m (Reach E) → Joined E m r s → Within b s m (Reach E)
   joined-within W none = W
   joined-within W (more q li lk e N) = one-within (joined-within W q) li lk e N
-
-  pub pass-within : {b r s : List ℕ} {x : Bool} → Within b r m (Reach E) → Pass (Reach E) m r s x → Within b s m (Reach E)
-  pass-within W P = joined-within W (P .joins)
 
   -- the table that relates each number to itself
   pub diagonal-within : {b r : List ℕ} → Holds b r m (λ i j. i ≡ j) → Within b r m (Reach E)
@@ -110,9 +121,9 @@ module _ {m : ℕ} {E : ℕ → ℕ → Type 0} where
 
   -- ---- closed
 
-  module _ {r : List ℕ} (low : (i j : ℕ) → E i j → (i < m) × (j < m)) (closed : (i k : ℕ) → E i k → Takes r m i k) where
+  module _ {r : List ℕ} (closed : (i k : ℕ) → E i k → Takes r m i k) where
     reach-takes : {i j : ℕ} → Reach E i j → Takes r m i j
-    reach-takes here = takes-self
+    reach-takes here = record { bits = λ j lj t. t }
     reach-takes (goes {k} {j} p e) = takes-join (reach-takes p) (closed k j e)
 
     -- sound and closed: exactly what can be reached

@@ -19,18 +19,18 @@ kept zero ps p h = absurd (omega arith)
 kept (suc n) [] p h = refl
 kept (suc n) (q ∷ ps) p h = ap (λ (l : List Pair). q ∷ l) (kept n ps p (omega arith))
 
-full : (n : ℕ) (ps : List Pair) (p : Pair) → n ≤ length ps → firsts n ps ≡ firsts n (ps ++ p ∷ [])
+full : (n : ℕ) (ps qs : List Pair) → n ≤ length ps → firsts n ps ≡ firsts n (ps ++ qs)
 unfolding firsts
-full zero ps p h = refl
-full (suc n) [] p h = absurd (omega arith)
-full (suc n) (q ∷ ps) p h = ap (λ (l : List Pair). q ∷ l) (full n ps p (omega arith))
+full zero ps qs h = refl
+full (suc n) [] qs h = absurd (omega arith)
+full (suc n) (p ∷ ps) qs h = ap (λ (l : List Pair). p ∷ l) (full n ps qs (omega arith))
 
 added-sheet : (ps : List Pair) (p : Pair) → length ps < mostCounted → added (sheetOf ps) p ≡ sheetOf (ps ++ p ∷ [])
 unfolding added sheetOf
 added-sheet ps p l =
     ap₂ (λ (l : List Pair) (n : ℕ). record { pairs = l; total = n })
     (by-cases (decLt (length ps) mostKept) (λ (h : length ps < mostKept). rw (lt-ltb _ _ h) (kept mostKept ps p h))
-    (λ (h : ¬ (length ps < mostKept)). rw (le-ltb (length ps) mostKept (omega arith)) (full mostKept ps p (omega arith))))
+    (λ (h : ¬ (length ps < mostKept)). rw (le-ltb (length ps) mostKept (omega arith)) (full mostKept ps (p ∷ []) (omega arith))))
     (omega (arith, length-append ps (p ∷ [])))
 
 -- ---- a list more
@@ -40,13 +40,19 @@ unfolding addAll
 addAll-append s [] qs = refl
 addAll-append s (p ∷ ps) qs = addAll-append (added s p) ps qs
 
-addAll-from : (ps qs : List Pair) → length ps + length qs ≤ mostCounted → addAll (sheetOf ps) qs ≡ sheetOf (ps ++ qs)
+-- of so many as can be counted
+pub addAll-from : (ps qs : List Pair) → length ps + length qs ≤ mostCounted → addAll (sheetOf ps) qs ≡ sheetOf (ps ++ qs)
 unfolding addAll
 addAll-from ps [] l = ap sheetOf (sym (append-nil ps))
 addAll-from ps (q ∷ qs) l =
     ap (λ (t : Sheet). addAll t qs) (added-sheet ps q (omega arith)) ∙ addAll-from (ps ++ q ∷ []) qs (omega (arith, length-append ps (q ∷ [])))
     ∙ ap sheetOf (append-assoc ps (q ∷ []) qs)
 
--- of so many as can be counted
-pub addAll-sheet : (ps : List Pair) → length ps ≤ mostCounted → addAll (sheetOf []) ps ≡ sheetOf ps
-addAll-sheet ps l = addAll-from [] ps (omega arith)
+-- a sheet that keeps as many as it can only counts
+pub counted-on : (ps qs : List Pair) → mostKept ≤ length ps → record { pairs = sheetOf ps .pairs; total = length ps + length qs } ≡ sheetOf (ps ++ qs)
+unfolding sheetOf
+counted-on ps qs h = ap₂ (λ (l : List Pair) (n : ℕ). record { pairs = l; total = n }) (full mostKept ps qs h) (sym (length-append ps qs))
+
+pub sheet-total : (ps : List Pair) → sheetOf ps .total ≡ length ps
+unfolding sheetOf
+sheet-total ps = refl

@@ -1,7 +1,7 @@
 -- The numbers below i are related to themselves. Assumes nothing.
 use Prim.Native.Nat.{_≤_, _-_}
 use borrow.Author.Tests.{not-true, not-false}
-use Rattle.relation.proofs.Rooms.{Diagonal, diagonal-none, diagonal-more, diagonal-all, cleared-fits, still-fits, not-cleared}
+use Rattle.relation.proofs.Selves.{Diagonal, diagonal-none, diagonal-more, diagonal-all, cleared-fits, still-fits, not-cleared}
 use borrow.Author.Needs.{needs}
 use Rattle.relation.proofs.table.diagonal.Statement.{statement}
 use Rattle.relation.proofs.table.diagonal.Tie as tie
