@@ -42,7 +42,14 @@ fn look(
     requires { ⌜ Searches (now commands) (now lengths) (now generations) (now heads) ⌝ }
     ensures { λ r. ⌜ Looked (now (commands .entry)) (now (lengths .entry)) (numberAt (now (generations .entry))) (related (now (relation .entry)) (rows (now (commands .entry)))) r ⌝ }
 {
-    let reuses = search(Fault::Reuse, commands, lengths, generations, relation, heads);
+    let reuses = search(
+        Fault::Reuse,
+        commands,
+        lengths,
+        generations,
+        relation,
+        heads,
+    );
     if reuses.total != 0 {
         let pair = reuses.pairs[0];
         return Finding {

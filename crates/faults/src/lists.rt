@@ -8,6 +8,13 @@ ghost use Rattle.faults.specs.Lists.{listed, meeting, key, Lists, Candid
 use crate::faults::Fault;
 use tables::Table;
 
+// A number of 32 bits among those of an index.
+fn wide(x: u32) -> usize
+    ensures { λ r. ⌜ (r ≡ x) × (r < 2 ^ 32) ⌝ }
+{
+    x as usize
+}
+
 // Can such a fault pair command c?
 fn listed(fault: Fault, commands: &[u32], c: usize) -> bool
     requires { ⌜ c < rows (now commands) ⌝ }
@@ -25,7 +32,7 @@ fn meeting(barrier: u32, generation: usize) -> usize
     requires { ⌜ generation < 2 ^ 33 ⌝ }
     ensures { λ r. ⌜ (r ≡ meeting barrier generation) × (r < mostRows) ⌝ }
 {
-    (barrier as usize * (Table::ROWS / Table::BARRIERS) + generation) % Table::ROWS
+    (wide(barrier) * (Table::ROWS / Table::BARRIERS) + generation) % Table::ROWS
 }
 
 // The list of command c.
@@ -35,8 +42,8 @@ fn key(fault: Fault, commands: &[u32], generations: &[u32], c: usize) -> usize
 {
     let name = commands[c * 3 + 1];
     match fault {
-        Fault::Reuse => meeting(name, generations[c] as usize),
-        Fault::Race => name as usize % Table::ROWS,
+        Fault::Reuse => meeting(name, wide(generations[c])),
+        Fault::Race => wide(name) % Table::ROWS,
     }
 }
 
@@ -79,7 +86,7 @@ pub(crate) fn first_candidate(
     }
     match fault {
         Fault::Reuse => {
-            let before = generations[i] as usize + (Table::ROWS - 1);
+            let before = wide(generations[i]) + (Table::ROWS - 1);
             fronts[meeting(commands[i * 3 + 1], before)]
         }
         Fault::Race => nexts[i],

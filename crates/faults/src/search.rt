@@ -90,10 +90,31 @@ fn search_rows(
     let mut found = Sheet::empty();
     let mut i = 0;
     while i < m {
-        let n = count_row(fault, commands, lengths, generations, relation, heads, fronts, nexts, i);
+        let n = count_row(
+            fault,
+            commands,
+            lengths,
+            generations,
+            relation,
+            heads,
+            fronts,
+            nexts,
+            i,
+        );
         if n != 0 {
             if found.total < Sheet::KEPT {
-                found = keep_row(found, fault, commands, lengths, generations, relation, heads, fronts, nexts, i);
+                found = keep_row(
+                    found,
+                    fault,
+                    commands,
+                    lengths,
+                    generations,
+                    relation,
+                    heads,
+                    fronts,
+                    nexts,
+                    i,
+                );
             } else {
                 found.total += n;
             }
@@ -118,5 +139,14 @@ pub(crate) fn search(
     let mut fronts = [Table::ROWS; Table::ROWS];
     let mut nexts = [Table::ROWS; Table::ROWS];
     list(fault, commands, generations, &mut fronts, &mut nexts);
-    search_rows(fault, commands, lengths, generations, relation, heads, &fronts, &nexts)
+    search_rows(
+        fault,
+        commands,
+        lengths,
+        generations,
+        relation,
+        heads,
+        &fronts,
+        &nexts,
+    )
 }

@@ -3,45 +3,33 @@ use mathlib.Core.Path.{_≡_, sym, ap, _∙_}
 use mathlib.Core.Logic.{_⊎_, inl, inr, _≢_}
 use mathlib.Core.Bool.{true, false, not, and-false}
 use mathlib.Core.List.{List}
-use Prim.Native.Nat.{ℕ, suc, _+_, _≤_, _<_, min}
+use Prim.Native.Nat.{ℕ, suc, _+_, _≤_, _<_}
 use native.Mathlib.Numerals.{add-one}
 use native.Mathlib.Omega.{arith}
 use lib.Dec.{eqb}
 use lib.ListN.{length}
 use borrow.Author.Tests.{eq-eqb, ne-eqb}
-use Rattle.tables.specs.Limits.{mostThreads}
-use Rattle.tables.specs.Rows.{rows, firstRow, threadOf, isFirst}
-use Rattle.tables.proofs.Rows.{thread-most}
+use Rattle.tables.specs.Rows.{rows, isFirst}
 use Rattle.relation.specs.Table.{words, related}
-use Rattle.relation.proofs.Truth.{same-test, pair, left, right}
+use Rattle.relation.proofs.Truth.{same-test, pair, left}
 use Rattle.relation.proofs.Chains.{reach-map}
 use Rattle.relation.proofs.Rooms.{holds-related, holds-map}
 use Rattle.schedules.specs.Order.{Reaches, edge, reach}
 use Rattle.schedules.proofs.Table.{decides, edge-alike}
 use Rattle.replay.specs.Program.{program}
-use Rattle.order.specs.Order.{meets, edges, Reached}
+use Rattle.order.specs.Order.{meets, Reached}
 
 -- ---- each edge
 
--- the thread of a row is at most the number of threads, which is within the limit
-pub first-is : (lengths : List ℕ) (c : ℕ) {t f : ℕ} → length lengths ≤ mostThreads → t ≡ threadOf lengths c → f ≡ firstRow lengths (min t mostThreads)
-    → eqb c f ≡ isFirst lengths c
-first-is lengths c {t} few thread first =
-    let e : min t mostThreads ≡ threadOf lengths c = omega (arith, thread-most lengths c) in
-    ap (eqb c) (first ∙ ap (firstRow lengths) e)
-
 module _ (commands lengths : List ℕ) (g : ℕ → ℕ) where
-  pub edge-same : (i j : ℕ) → i ≡ j → edges commands lengths g i j ≡ true
-  edge-same i j e = left _ _ (eq-eqb i j e)
-
-  pub edge-along : (i j : ℕ) → j ≡ i + 1 → isFirst lengths j ≡ false → edges commands lengths g i j ≡ true
+  pub edge-along : (i j : ℕ) → j ≡ i + 1 → isFirst lengths j ≡ false → edge (program commands lengths) g i j ≡ true
   unfolding edge
-  edge-along i j e f = right (eqb i j) _ (left _ _ (pair _ _ (eq-eqb j (suc i) (e ∙ add-one i)) (ap not f)))
+  edge-along i j e f = left _ _ (pair _ _ (eq-eqb j (suc i) (e ∙ add-one i)) (ap not f))
 
-  pub edge-meets : (i j : ℕ) → i ≢ j → (j ≢ i + 1) ⊎ (isFirst lengths j ≡ true) → edges commands lengths g i j ≡ meets commands g i j
+  pub edge-meets : (i j : ℕ) → (j ≢ i + 1) ⊎ (isFirst lengths j ≡ true) → edge (program commands lengths) g i j ≡ meets commands g i j
   unfolding edge
-  edge-meets i j n (inl u) = rw (ne-eqb i j n, ne-eqb j (suc i) (λ e. u (e ∙ sym (add-one i))))
-  edge-meets i j n (inr t) = rw (ne-eqb i j n, t, and-false (eqb j (suc i)))
+  edge-meets i j (inl u) = rw (ne-eqb j (suc i) (λ e. u (e ∙ sym (add-one i))))
+  edge-meets i j (inr t) = rw (t, and-false (eqb j (suc i)))
 
 module _ (commands lengths : List ℕ) (g : ℕ → ℕ) where
   abbrev m : ℕ

@@ -40,10 +40,10 @@ pub data Pulls (commands generations bases leaders : List ℕ) (led : Bool) (c :
 
 -- what is tried in a sweep from the last command down to c
 pub record Sweeps (commands generations bases leaders : List ℕ) (led : Bool) (c i k : ℕ) : Type 0 where
-  pub for : ℕ
-  pub low : c ≤ for
-  pub high : for < rows commands
-  pub pulls : Pulls commands generations bases leaders led for i k
+  pub one : ℕ
+  pub low : c ≤ one
+  pub high : one < rows commands
+  pub pulls : Pulls commands generations bases leaders led one i k
 
 -- rows were joined along edges until each edge was taken
 pub record Settled (commands lengths generations before after : List ℕ) : Type 0 where

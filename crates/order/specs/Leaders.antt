@@ -9,14 +9,14 @@ use Rattle.tables.specs.Rows.{rows, name}
 use Rattle.replay.specs.Step.{syncs}
 use Rattle.order.specs.Order.{numberAt, meets}
 
-module _ (commands generations bases leaders : List ℕ) where
-  -- the seat of c's barrier and generation: a seat for each row, and those of a barrier begin at its base
-  abbrev pub seat : ℕ → ℕ
-  seat c = (getD bases (name commands c % barriers) 0 % mostRows + numberAt generations c) % mostRows
+-- the seat of c's barrier and generation: there are as many seats as rows, and those of a barrier begin at its base
+abbrev pub seat : List ℕ → List ℕ → List ℕ → ℕ → ℕ
+seat commands generations bases c = (getD bases (name commands c % barriers) 0 % mostRows + numberAt generations c) % mostRows
 
+module _ (commands generations bases leaders : List ℕ) where
   -- who sits there
   abbrev pub leader : ℕ → ℕ
-  leader c = getD leaders ((getD bases (name commands c % barriers) 0 % mostRows + numberAt generations c) % mostRows) 0
+  leader c = getD leaders (seat commands generations bases c) 0
 
   -- each sync below n meets its leader
   abbrev pub LedBelow : ℕ → Type 0

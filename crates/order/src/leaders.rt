@@ -1,7 +1,7 @@
 // For each barrier and generation one sync of it, its leader: chosen first, and looked at then. Nothing is promised of the choice but what the look finds.
 ghost use mathlib.Core.Path.{_≡_};
 ghost use mathlib.Core.Bool.{true};
-ghost use Prim.Native.Nat.{_≤_, _<_};
+ghost use Prim.Native.Nat.{_≤_, _<_, _^_};
 ghost use lib.ListN.{length};
 ghost use Rattle.tables.specs.Limits.{mostRows};
 ghost use Rattle.tables.specs.Rows.{rows};
@@ -10,13 +10,20 @@ ghost use Rattle.order.specs.Leaders.{seat, leader, Led};
 use crate::edges::meets;
 use tables::Table;
 
+// A number of 32 bits among those of an index.
+fn wide(x: u32) -> usize
+    ensures { λ r. ⌜ (r ≡ x) × (r < 2 ^ 32) ⌝ }
+{
+    x as usize
+}
+
 // How many commands register at each barrier. Remainders keep any sum from wrapping; the few numbers here are below them.
 fn count(commands: &[u32], bases: &mut [usize; Table::BARRIERS]) {
     let m = commands.len() / 3;
     let mut c = 0;
     while c < m {
         if Table::ARRIVE <= commands[c * 3] {
-            let barrier = commands[c * 3 + 1] as usize % Table::BARRIERS;
+            let barrier = wide(commands[c * 3 + 1]) % Table::BARRIERS;
             bases[barrier] = bases[barrier] % Table::ROWS + 1;
         }
         c += 1;
@@ -36,17 +43,12 @@ fn add_up(bases: &mut [usize; Table::BARRIERS]) {
 }
 
 // The seat of c's barrier and generation.
-fn seat(
-    commands: &[u32],
-    generations: &[u32],
-    bases: &[usize; Table::BARRIERS],
-    c: usize,
-) -> usize
+fn seat(commands: &[u32], generations: &[u32], bases: &[usize; Table::BARRIERS], c: usize) -> usize
     requires { ⌜ Command (now commands) (now generations) c ⌝ }
     ensures { λ r. ⌜ (r ≡ seat (now (commands .entry)) (now (generations .entry)) (now (bases .entry)) c) × (r < mostRows) ⌝ }
 {
-    let base = bases[commands[c * 3 + 1] as usize % Table::BARRIERS];
-    (base % Table::ROWS + generations[c] as usize) % Table::ROWS
+    let base = bases[wide(commands[c * 3 + 1]) % Table::BARRIERS];
+    (base % Table::ROWS + wide(generations[c])) % Table::ROWS
 }
 
 // The leader of c's barrier and generation.

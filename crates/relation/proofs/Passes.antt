@@ -31,22 +31,25 @@ module _ {E : ℕ → ℕ → Type 0} {m : ℕ} where
   pub pass-none : {T : ℕ → ℕ → Type 0} {a : List ℕ} → ((i k : ℕ) → T i k → E i k → ⊥) → Pass E m T a a false
   pass-none n = record { joins = none; still = λ f. refl; takes = λ f i k t e. absurd (n i k t e); grown = λ t. clashing t refl }
 
-  -- two passes, and all that one or the other tried
-  pub pass-join : {S T U : ℕ → ℕ → Type 0} {a b c : List ℕ} {x y : Bool} → Pass E m S a b x → Pass E m T b c y
-      → ((i k : ℕ) → U i k → S i k ⊎ T i k) → Pass E m U a c (x || y)
-  pass-join {S} {T} {U} {a} {b} {c} {x} {y} P Q cover =
+  -- two passes have tried what one or the other tried
+  pub pass-join : {S T : ℕ → ℕ → Type 0} {a b c : List ℕ} {x y : Bool} → Pass E m S a b x → Pass E m T b c y → Pass E m (λ i k. S i k ⊎ T i k) a c (x || y)
+  pass-join {S} {T} {a} {b} {c} {x} {y} P Q =
       record {
         joins = joined-join (P .joins) (Q .joins);
         still = λ e. let (f, g) = neither x y e in Q .still g ∙ P .still f;
         takes = λ e i k u d.
             let (f, g) = neither x y e in
-            ⊎-elim (λ (s : S i k). P .takes f i k s d) (λ (t : T i k). subst (λ (r : List ℕ). Takes r m i k) (P .still f) (Q .takes g i k t d)) (cover i k u);
+            ⊎-elim (λ (s : S i k). P .takes f i k s d) (λ (t : T i k). subst (λ (r : List ℕ). Takes r m i k) (P .still f) (Q .takes g i k t d)) u;
         grown = λ e.
             ⊎-elim
             (λ (f : x ≡ true). let l = P .grown f in ⊎-elim (λ (g : y ≡ true). omega (arith, Q .grown g)) (λ (g : y ≡ false). omega (arith, ap sum (Q .still g))) (split y))
             (λ (f : x ≡ false). let l = Q .grown (rw f at e) in omega (arith, ap sum (P .still f)))
             (split x);
       }
+
+  -- and each part of what they tried
+  pub pass-part : {S T : ℕ → ℕ → Type 0} {a b : List ℕ} {x : Bool} → ((i k : ℕ) → S i k → T i k) → Pass E m T a b x → Pass E m S a b x
+  pass-part h P = record { joins = P .joins; still = P .still; takes = λ f i k s. P .takes f i k (h i k s); grown = P .grown }
 
   -- one join, where there is room
   pub pass-one : {b a : List ℕ} {i k : ℕ} {said : Bool} → words m ≤ length b → i < m → k < m → E i k → Joins b a m i k said → Pass E m (At i k) b a said

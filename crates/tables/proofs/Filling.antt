@@ -5,11 +5,12 @@ use mathlib.Core.List.{List}
 use Prim.Native.Nat.{ℕ, min, _+_, _≤_, _<_}
 use native.Mathlib.Decide.{ℕ-discrete}
 use native.Mathlib.Omega.{arith}
+use lib.Dec.{eqb}
 use lib.ListN.{length, getD, set, length-set}
 use lib.Seq.{getD-set-same, getD-set-other}
-use Rattle.tables.specs.Rows.{total, firstRow, threadOf}
+use Rattle.tables.specs.Rows.{total, firstRow, threadOf, isFirst}
 use Rattle.tables.specs.Heads.{Heads, Headed, Filled, Fills}
-use Rattle.tables.proofs.Rows.{first-none, first-next, first-all, only}
+use Rattle.tables.proofs.Rows.{first-none, first-next, first-all, only, same-head}
 
 -- ---- a room that is filled by one store after another
 
@@ -76,3 +77,12 @@ begun-all {lengths} {t} l B =
 -- a room that is large enough has them all
 pub headed : {lengths before after : List ℕ} → total lengths ≤ length before → Heads lengths before after → Headed lengths after
 headed fits H = record { head = λ c l. H .head c (omega arith) l }
+
+-- a row is the first of its thread exactly when it is its own head
+pub first-by-head : {lengths heads : List ℕ} → Headed lengths heads → (c : ℕ) → c < total lengths → eqb c (getD heads c 0) ≡ isFirst lengths c
+first-by-head H c l = ap (eqb c) (H .head c l)
+
+-- two rows are of one thread exactly when they have one head
+pub same-by-head : {lengths heads : List ℕ} → Headed lengths heads → (x y : ℕ) → x < total lengths → y < total lengths
+    → eqb (getD heads x 0) (getD heads y 0) ≡ eqb (threadOf lengths x) (threadOf lengths y)
+same-by-head {lengths} H x y hx hy = rw (H .head x hx, H .head y hy) (same-head lengths x y hx hy)

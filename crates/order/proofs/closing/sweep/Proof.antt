@@ -3,33 +3,36 @@ use mathlib.Core.Path.{_≡_}
 use Prim.Native.Nat.{_≤_}
 use native.Mathlib.Omega.{arith}
 use Rattle.tables.specs.Rows.{rows}
-use Rattle.relation.proofs.Passes.{pass-length}
-use Rattle.order.specs.Order.{Swept}
-use Rattle.order.proofs.Joining.{roomy-pass, swept-none, swept-more}
+use Rattle.relation.proofs.Passes.{joined-length, pass-none, pass-join, pass-part}
+use Rattle.order.specs.Closing.{Along, Sweeps}
+use Rattle.order.proofs.Joining.{ready-still, sweeps-more}
 use borrow.Author.Needs.{needs}
 use Rattle.order.proofs.closing.sweep.Statement.{statement}
 use Rattle.order.proofs.closing.sweep.Tie as tie
 
 abbrev Inv-loop : tie.InvT-loop
-Inv-loop commands lengths generations leaders led relation₀ changed₀ c₀ relation changed c =
-    (c ≤ rows commands) × Swept commands lengths generations leaders relation₀ relation led changed c
+Inv-loop commands lengths generations heads bases leaders led relation₀ changed₀ c₀ relation changed c = (c ≤ rows commands) × Along commands lengths generations (Sweeps commands generations bases leaders led c) relation₀ relation changed
 
 abbrev μ-loop : tie.MeasureT-loop
-μ-loop commands lengths generations leaders led relation₀ changed₀ c₀ relation changed c = c
+μ-loop commands lengths generations heads bases leaders led relation₀ changed₀ c₀ relation changed c = c
 
 loop-holds : tie.Need-loop-holds Inv-loop μ-loop
-loop-holds c = (search needs, swept-none)
+loop-holds c = (search needs, pass-none (λ i k s e. absurd (omega (arith, s .low, s .high))))
 
 pull-requires : tie.Need-pull-requires Inv-loop μ-loop
-pull-requires c κs = (search needs, roomy-pass (c .before .before .before .before .before .before .before .pre) (c .before .before .loop .inv .1 .pass))
+pull-requires c κs = (search needs, ready-still (c .before .before .before .before .before .before .before .pre) (c .before .before .loop .inv .1 .joins))
 
 loop-again : tie.Need-loop-again Inv-loop μ-loop
 loop-again c =
-    let t = c .before .before .before .before in
-    (search needs, swept-more (t .loop-test .taken) (t .before .loop .inv .1) (c .before .before .pull .ensures))
+    let l = c .before .before .before .before .before .loop in
+    let a = c .before .before .before .before .before .before .before .before .before .before .args in (
+      search needs,
+      pass-part (sweeps-more (a .commands .now) (a .generations .now) (a .bases .now) (a .leaders .now) (a .led) (l .c))
+          (pass-join (l .inv .1) (c .before .before .pull .ensures)),
+    )
 
 same-length : tie.Need-same-length Inv-loop μ-loop
-same-length c = pass-length (c .before .loop .inv .1 .pass)
+same-length c = joined-length (c .before .loop .inv .1 .joins)
 
 returns : tie.Need-returns Inv-loop μ-loop
 returns c = let e : c .before .loop .c ≡ 0 = omega (arith, c .loop-test .left) in rw e at (c .before .loop .inv .1)

@@ -1,31 +1,41 @@
 -- The tests of an edge, one after the other. Assumes nothing.
 use mathlib.Core.Path.{sym, _∙_}
 use mathlib.Core.Logic.{inl, inr, ⊎-elim}
-use borrow.Author.Tests.{not-true, not-false}
+use native.Mathlib.Omega.{arith}
+use borrow.Author.Tests.{eq-eqb, ne-eqb}
+use Rattle.tables.specs.Limits.{mostRows}
+use Rattle.tables.proofs.Filling.{first-by-head}
 use Rattle.order.specs.Order.{numberAt}
-use Rattle.order.proofs.Drawing.{edge-same, edge-along, edge-meets}
+use Rattle.order.proofs.Drawing.{edge-along, edge-meets}
 use borrow.Author.Needs.{needs}
 use Rattle.order.proofs.edges.edge.Statement.{statement}
 use Rattle.order.proofs.edges.edge.Tie as tie
 
 returns : tie.Need-returns
 returns c =
-    let a = c .before .before .before .before .args in
-    sym (edge-same (a .commands .now) (a .lengths .now) (numberAt (a .generations .now)) (a .i) (a .j) (c .if1 .taken))
+    let s = c .before .before .before .before .before .before in
+    let a = s .args in
+    let h = first-by-head (s .pre .1) (a .j) (omega (arith, s .pre .0 .adds-up)) in
+    sym (edge-along (a .commands .now) (a .lengths .now) (numberAt (a .generations .now)) (a .i) (a .j) (c .before .before .if1 .taken)
+    (sym h ∙ ne-eqb _ _ (c .if2 .taken)))
 
 returns-2 : tie.Need-returns-2
 returns-2 c =
-    let a = c .before .before .before .before .before .before .before .args in
-    sym (edge-along (a .commands .now) (a .lengths .now) (numberAt (a .generations .now)) (a .i) (a .j) (c .before .before .if2 .taken)
-    (sym (c .before .is-first .ensures) ∙ not-true _ (c .if3 .taken)))
-
-returns-3 : tie.Need-returns-3
-returns-3 c =
-    let a = c .before .before .before .before .before .before .args in
+    let s = c .before .before .before .before .before in
+    let a = s .args in
+    let h = first-by-head (s .pre .1) (a .j) (omega (arith, s .pre .0 .adds-up)) in
     c .meets .ensures
-    ∙ sym (edge-meets (a .commands .now) (a .lengths .now) (numberAt (a .generations .now)) (a .i) (a .j) (c .before .before .if1 .left)
-    (⊎-elim (λ w. inr (sym (w .1 .ensures) ∙ not-false _ (w .2 .left))) (λ w. inl (w .left)) (c .before .if2 .came)))
+    ∙ sym (edge-meets (a .commands .now) (a .lengths .now) (numberAt (a .generations .now)) (a .i) (a .j)
+    (⊎-elim (λ w. inr (sym h ∙ eq-eqb _ _ (w .2 .left))) (λ w. inl (w .left)) (c .before .if1 .came)))
 
 pub edge-spec : {M : Type 1} → statement M
+unfolding mostRows
 edge-spec =
-    tie.close (tie.spec returns (λ c. search needs) (λ c κs. search needs) returns-2 (λ c κs. search needs) returns-3)
+    tie.close
+    (tie.spec
+    (λ c. search needs)
+    (λ c. search needs)
+    (λ c. search needs)
+    returns
+    (λ c κs. search needs)
+    returns-2)

@@ -6,17 +6,17 @@ use native.Mathlib.Omega.{arith}
 use borrow.Author.Tests.{ne-eqb, not-false}
 use Rattle.tables.specs.Rows.{rows}
 use Rattle.relation.proofs.Truth.{clashing}
-use Rattle.order.specs.Order.{LedBelow}
+use Rattle.order.specs.Leaders.{LedBelow}
 use Rattle.order.proofs.Joining.{led-more}
 use borrow.Author.Needs.{needs}
 use Rattle.order.proofs.leaders.all_led.Statement.{statement}
 use Rattle.order.proofs.leaders.all_led.Tie as tie
 
 abbrev Inv-loop : tie.InvT-loop
-Inv-loop commands generations leaders m c₀ c = (c ≤ rows commands) × LedBelow commands generations leaders c
+Inv-loop commands generations bases leaders m c₀ c = (c ≤ rows commands) × LedBelow commands generations bases leaders c
 
 abbrev μ-loop : tie.MeasureT-loop
-μ-loop commands generations leaders m c₀ c = rows commands - c
+μ-loop commands generations bases leaders m c₀ c = rows commands - c
 
 loop-holds : tie.Need-loop-holds Inv-loop μ-loop
 loop-holds c = (search needs, λ x l s. absurd (omega arith))
@@ -32,9 +32,15 @@ loop-again c =
     let l = c .before .before .before .loop in
     let a = c .before .before .before .before .before .before .args in (
       search needs,
-      led-more (a .commands .now) (a .generations .now) (a .leaders .now) (l .c) (l .inv .1)
-          (λ t. ⊎-elim (λ w. let e = w .1 .ensures in let l : w .1 .result < rows (a .commands .now) = omega (arith, w .2 .left) in (rw e at l, rw e at (sym (w .3 .ensures) ∙ not-false _ (w .4 .left))))
-          (λ w. clashing t (ne-eqb _ _ (w .left))) (c .if1 .came)),
+      led-more (a .commands .now) (a .generations .now) (a .bases .now) (a .leaders .now) (l .c) (l .inv .1)
+          (λ t.
+          ⊎-elim
+          (λ w.
+          let e = w .1 .ensures in
+          let l : w .1 .result < rows (a .commands .now) = omega (arith, w .2 .left) in
+          (rw e at l, rw e at (sym (w .3 .ensures) ∙ not-false _ (w .4 .left))))
+          (λ w. clashing t (ne-eqb _ _ (w .left)))
+          (c .if1 .came)),
     )
 
 returns-3 : tie.Need-returns-3 Inv-loop μ-loop

@@ -1,14 +1,21 @@
--- The number at the slot. Assumes nothing.
-use mathlib.Core.Path.{ap, _∙_}
+-- The number at the seat. Assumes nothing.
+use mathlib.Core.Path.{ap}
 use Prim.Native.Nat.{ℕ}
 use lib.ListN.{getD}
+use Rattle.tables.specs.Limits.{mostRows}
 use borrow.Author.Needs.{needs}
 use Rattle.order.proofs.leaders.leader.Statement.{statement}
 use Rattle.order.proofs.leaders.leader.Tie as tie
 
 returns : tie.Need-returns
-returns c = c .wide .ensures ∙ ap (λ (p : ℕ). getD (c .before .before .before .before .before .args .leaders .now) p 0) (c .before .before .slot .ensures)
+returns c = ap (λ (p : ℕ). getD (c .before .before .before .before .args .leaders .now) p 0) (c .before .seat .ensures .0)
 
 pub leader-spec : {M : Type 1} → statement M
+unfolding mostRows
 leader-spec =
-    tie.close (tie.spec (λ c κs. search needs) (λ c. search needs) (λ c. search needs) (λ c κs. search needs) returns)
+    tie.close
+    (tie.spec
+    (λ c κs. search needs)
+    (λ c. search needs)
+    (λ c. search needs)
+    returns)

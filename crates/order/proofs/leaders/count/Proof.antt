@@ -1,20 +1,18 @@
--- A hint. Assumes nothing.
+-- A hint, of which nothing is promised. Assumes nothing.
 use Prim.Native.Nat.{_≤_, _-_}
-use Rattle.tables.specs.Limits.{mostRows}
 use Rattle.tables.specs.Rows.{rows}
 use borrow.Author.Needs.{needs}
-use Rattle.order.proofs.leaders.choose.Statement.{statement}
-use Rattle.order.proofs.leaders.choose.Tie as tie
+use Rattle.order.proofs.leaders.count.Statement.{statement}
+use Rattle.order.proofs.leaders.count.Tie as tie
 
 abbrev Inv-loop : tie.InvT-loop
-Inv-loop commands generations leaders₀ m c₀ leaders c = c ≤ rows commands
+Inv-loop commands bases₀ m c₀ bases c = c ≤ rows commands
 
 abbrev μ-loop : tie.MeasureT-loop
-μ-loop commands generations leaders₀ m c₀ leaders c = rows commands - c
+μ-loop commands bases₀ m c₀ bases c = rows commands - c
 
-pub choose-spec : {M : Type 1} → statement M
-unfolding mostRows
-choose-spec =
+pub count-spec : {M : Type 1} → statement M
+count-spec =
     tie.close
     (tie.spec
     Inv-loop
@@ -23,7 +21,13 @@ choose-spec =
     (λ c. search needs)
     (λ c. search needs)
     (λ c. search needs)
+    (λ c. search needs)
+    (λ c. search needs)
+    (λ c. search needs)
+    (λ c. search needs)
     (λ c κs. search needs)
+    (λ c. search needs)
+    (λ c. search needs)
     (λ c. search needs)
     (λ c. search needs)
     (λ c. search needs)
