@@ -2,9 +2,10 @@
 use mathlib.Core.Path.{_≡_, refl, sym, ap, _∙_}
 use mathlib.Core.Logic.{by-cases, _≢_}
 use mathlib.Core.Bool.{Bool, true, false}
-use mathlib.Core.List.{List}
-use Prim.Native.Nat.{ℕ, _+_, _%_, _≤_, _<_, min}
+use mathlib.Core.List.{List, [], _∷_, _++_}
+use Prim.Native.Nat.{ℕ, zero, suc, _+_, _%_, _≤_, _<_, min}
 use native.Mathlib.Decide.{ℕ-discrete, decLt}
+use native.Mathlib.Numerals.{add-one}
 use native.Mathlib.Omega.{arith}
 use lib.Dec.{eqb, ltb}
 use lib.ListN.{length, getD, set, replicate, length-set, length-replicate, getD-replicate}
@@ -19,9 +20,9 @@ use Rattle.order.specs.Order.{numberAt}
 use Rattle.sheet.specs.declared.Pair.{Pair}
 use Rattle.faults.specs.declared.faults.Fault.{Fault}
 use Rattle.faults.specs.declared.faults.Fault.the-variants.{Reuse, Race}
-use Rattle.faults.specs.Faults.{succeeds, reuse, conflict, race, faulty, alongRow}
+use Rattle.faults.specs.Faults.{succeeds, reuse, conflict, race, faulty, pairOf, alongRow}
 use Rattle.faults.specs.Lists.{listed, key, wanted, Next, Lists, Candidate, Unlisted}
-use Rattle.faults.proofs.Searching.{along-passed}
+use Rattle.faults.proofs.Searching.{along-none, along-found, along-passed, row-length}
 
 pub key-small : (f : Fault) (commands generations : List ℕ) (c : ℕ) → key f commands generations c < mostRows
 unfolding mostRows
@@ -45,6 +46,7 @@ module _ {f : Fault} {commands generations fronts nexts : List ℕ} where
   pub lists-none : Unlisted commands generations fronts nexts → Lists f commands generations fronts nexts (rows commands)
   lists-none U =
       record {
+        few = U .few;
         fronts-fit = U .fronts-fit;
         nexts-fit = U .nexts-fit;
         front = λ k l.
@@ -72,13 +74,14 @@ module _ (f : Fault) (commands generations fronts nexts : List ℕ) (d : ℕ) (L
   pub lists-passed : listed f commands d ≡ false → Lists f commands generations fronts nexts d
   lists-passed out =
       record {
+        few = L .few;
         fronts-fit = L .fronts-fit;
         nexts-fit = L .nexts-fit;
         front = λ k l. next-down (L .front k l) (λ s. clashing s out);
         next = λ x h l s. by-cases (ℕ-discrete x d) (λ (e : x ≡ d). clashing s (rw (sym e) at out)) (λ (n : x ≢ d). L .next x (omega arith) l s);
       }
 
-  module _ (few : rows commands ≤ mostRows) (low : d < rows commands) (is : listed f commands d ≡ true) where
+  module _ (low : d < rows commands) (is : listed f commands d ≡ true) where
     abbrev k₀ : ℕ
     k₀ = key f commands generations d
 
@@ -89,6 +92,7 @@ module _ (f : Fault) (commands generations fronts nexts : List ℕ) (d : ℕ) (L
     pub lists-more : Lists f commands generations (set fronts k₀ d) (set nexts d (getD fronts k₀ 0)) d
     lists-more =
         record {
+          few = L .few;
           fronts-fit = length-set fronts _ _ ∙ L .fronts-fit;
           nexts-fit = length-set nexts _ _ ∙ L .nexts-fit;
           front = λ k l.
@@ -100,7 +104,7 @@ module _ (f : Fault) (commands generations fronts nexts : List ℕ) (d : ℕ) (L
           next = λ x h l s.
               by-cases (ℕ-discrete x d)
               (λ (e : x ≡ d).
-              rw (e, getD-set-same nexts d (getD fronts k₀ 0) 0 (omega (arith, L .nexts-fit))) (L .front k₀ small))
+              rw (e, getD-set-same nexts d (getD fronts k₀ 0) 0 (omega (arith, L .nexts-fit, L .few))) (L .front k₀ small))
               (λ (n : x ≢ d). rw (getD-set-other nexts d x (getD fronts k₀ 0) 0 n) (L .next x (omega arith) l s));
         }
 
@@ -165,9 +169,46 @@ skip found to a (suc b) l n =
     by-cases (ℕ-discrete a (suc b)) (λ (q : a ≡ suc b). rw q)
     (λ (m : a ≢ suc b). along-passed found to b (n b (omega arith) (omega arith)) ∙ skip found to a b (omega arith) (λ y h k. n y h (omega arith)))
 
--- from a number to the next candidate
-pub walked : {f : Fault} {commands lengths generations : List ℕ} {ρ : ℕ → ℕ → Bool} {i a n : ℕ} → (to : ℕ → Pair) → a ≤ n → a ≤ rows commands
-    → Candidate f commands generations i a n
-    → alongRow (faulty commands lengths (numberAt generations) ρ f i) to (min n (rows commands)) ≡ alongRow (faulty commands lengths (numberAt generations) ρ f i) to a
-walked {commands = commands} {lengths = lengths} {ρ = ρ} {a = a} {n = n} to low here C =
-    skip _ to a (min n (rows commands)) (omega arith) (λ y h l. C .none lengths ρ y h (omega arith) (omega arith))
+module _ (f : Fault) (commands lengths generations : List ℕ) (ρ : ℕ → ℕ → Bool) (i : ℕ) where
+  abbrev found : ℕ → Bool
+  found = faulty commands lengths (numberAt generations) ρ f i
+
+  -- the pairs of i with the numbers below j
+  abbrev pub below : ℕ → List Pair
+  below j = alongRow (faulty commands lengths (numberAt generations) ρ f i) (pairOf f i) (min j (rows commands))
+
+  pub below-few : (j : ℕ) → length (below j) ≤ j
+  below-few j = omega (arith, row-length found (pairOf f i) (min j (rows commands)))
+
+  -- j is in the list that i wants
+  abbrev pub OnList : ℕ → Type 0
+  OnList j = j < rows commands → (listed f commands j ≡ true) × (key f commands generations j ≡ wanted f commands generations i)
+
+  -- up to the next candidate
+  walked : (a n : ℕ) → a ≤ n → a ≤ rows commands → Candidate f commands generations i a n → below n ≡ alongRow found (pairOf f i) a
+  walked a n low high C = skip found (pairOf f i) a (min n (rows commands)) (omega arith) (λ y h l. C .none lengths ρ y h (omega arith) (omega arith))
+
+  pub walk-begun : {n : ℕ} → Candidate f commands generations i 0 n → (below n ≡ []) × OnList n
+  walk-begun {n} C = (walked 0 n (omega arith) (omega arith) C ∙ along-none found (pairOf f i), C .here)
+
+  -- from j in its list to the next in it
+  pub record Walked (j n : ℕ) : Type 0 where
+    pub higher : j < n
+    pub on : OnList n
+    pub more : found j ≡ true → below n ≡ below j ++ pairOf f i j ∷ []
+    pub same : found j ≡ false → below n ≡ below j
+
+  pub walk-on : {fronts nexts : List ℕ} → Lists f commands generations fronts nexts 0 → (j : ℕ) → j < rows commands → OnList j → Walked j (getD nexts j 0)
+  walk-on {nexts = nexts} L j l on =
+      let (s, k) = on l in
+      let n = getD nexts j 0 in
+      let X : Next f commands generations (wanted f commands generations i) (j + 1) n = rw k at (L .next j (omega arith) l s) in
+      let C = candidate X in
+      let w = walked (j + 1) n (X .from) (omega arith) C in
+      let e : min j (rows commands) ≡ j = omega arith in
+      record {
+        higher = omega (arith, X .from);
+        on = C .here;
+        more = λ t. w ∙ along-found found (pairOf f i) j t ∙ ap (λ (m : ℕ). alongRow found (pairOf f i) m ++ pairOf f i j ∷ []) (sym e);
+        same = λ t. w ∙ ap (alongRow found (pairOf f i)) (add-one j) ∙ along-passed found (pairOf f i) j t ∙ ap (alongRow found (pairOf f i)) (sym e);
+      }

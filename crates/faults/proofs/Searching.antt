@@ -32,14 +32,6 @@ module _ (found : ℕ → Bool) (to : ℕ → Pair) where
   unfolding alongRow
   along-passed j f = rw f (append-nil (alongRow found to j))
 
-  -- one fault more, counted or added
-  pub one-counted : (j n : ℕ) → n ≡ length (alongRow found to j) → found j ≡ true → n + 1 ≡ length (alongRow found to (j + 1))
-  one-counted j n e f = rw (along-found j f) (omega (arith, e, length-append (alongRow found to j) (to j ∷ [])))
-
-  pub one-added : (s t : Sheet) (j : ℕ) → t ≡ addAll s (alongRow found to j) → found j ≡ true → added t (to j) ≡ addAll s (alongRow found to (j + 1))
-  unfolding addAll
-  one-added s t j e f = rw (along-found j f, addAll-append s (alongRow found to j) (to j ∷ [])) (ap (λ (u : Sheet). added u (to j)) e)
-
   pub row-length : (j : ℕ) → length (alongRow found to j) ≤ j
   unfolding alongRow
   row-length zero = omega arith
@@ -48,6 +40,19 @@ module _ (found : ℕ → Bool) (to : ℕ → Pair) where
       short : (b : Bool) → length (cond b (to j ∷ []) []) ≤ 1
       short true = omega arith
       short false = omega arith
+
+-- no pair more
+pub none-added : (s : Sheet) (ps : List Pair) → ps ≡ [] → s ≡ addAll s ps
+unfolding addAll
+none-added s ps e = rw e
+
+-- one pair more, counted or added
+pub one-counted : (ps qs : List Pair) (p : Pair) {n : ℕ} → n ≡ length ps → qs ≡ ps ++ p ∷ [] → n + 1 ≡ length qs
+one-counted ps qs p e q = omega (arith, ap length q, length-append ps (p ∷ []))
+
+pub one-added : (ps qs : List Pair) (p : Pair) (s : Sheet) {t : Sheet} → t ≡ addAll s ps → qs ≡ ps ++ p ∷ [] → added t p ≡ addAll s qs
+unfolding addAll
+one-added ps qs p s e q = ap (λ (u : Sheet). added u p) e ∙ sym (addAll-append s ps (p ∷ [])) ∙ ap (addAll s) (sym q)
 
 none-left : (ps : List Pair) → length ps ≡ 0 → ps ≡ []
 none-left [] e = refl
@@ -81,12 +86,13 @@ module _ (found : ℕ → ℕ → Bool) (to : ℕ → ℕ → Pair) (m : ℕ) wh
     total-few =
         let a = all-length i in
         let b = row-length (found i) (to i) m in
-        let c : (i + 1) * m ≤ mostRows * mostRows = mul-le-mul {m = i + 1} {n = mostRows} {p = m} {q = mostRows} (omega arith) few in
+        let l : i + 1 ≤ mostRows = omega arith in
+        let c : (i + 1) * m ≤ mostRows * mostRows = mul-le-mul l few in
         omega (arith, total-is, suc-mul i m, add-one i)
 
     -- a row with no fault
     pub row-empty : n ≡ 0 → s ≡ sheetOf (allRows found to m (i + 1))
-    row-empty z = rw (all-next i, none-left _ (sym q ∙ z), append-nil (allRows found to m i)) e
+    row-empty z = rw (all-next i, none-left (row i) (sym q ∙ z), append-nil (allRows found to m i)) e
 
     -- a row whose faults are kept
     pub row-kept : t ≡ addAll s (row i) → t ≡ sheetOf (allRows found to m (i + 1))

@@ -41,6 +41,7 @@ pub record Next (f : Fault) (commands generations : List ℕ) (k a n : ℕ) : Ty
 
 -- the lists of the commands from c on: the front of each, and the next after each command
 pub record Lists (f : Fault) (commands generations fronts nexts : List ℕ) (c : ℕ) : Type 0 where
+  pub few : rows commands ≤ mostRows
   pub fronts-fit : length fronts ≡ mostRows
   pub nexts-fit : length nexts ≡ mostRows
   pub front : (k : ℕ) → k < mostRows → Next f commands generations k c (getD fronts k 0)

@@ -1,8 +1,9 @@
 -- The tests, one after the other. Assumes nothing.
 use mathlib.Core.Path.{sym, _∙_}
-use mathlib.Core.Bool.{and-false, and-true}
-use borrow.Author.Tests.{lt-ltb, le-ltb, not-true, not-false}
+use native.Mathlib.Omega.{arith}
+use borrow.Author.Tests.{lt-ltb, le-ltb, eq-eqb, ne-eqb, not-true, not-false}
 use Rattle.tables.specs.Limits.{mostRows}
+use Rattle.tables.proofs.Filling.{same-by-head}
 use Rattle.faults.specs.Faults.{race}
 use borrow.Author.Needs.{needs}
 use Rattle.faults.proofs.faults.is_race.Statement.{statement}
@@ -19,38 +20,27 @@ returns-2 c = simp (lt-ltb _ _ (c .before .before .if1 .left), sym (c .before .c
 returns-3 : tie.Need-returns-3
 unfolding race
 returns-3 c =
-    let k = c .before .before in
+    let k = c .before .before .before in
+    let s = k .before .before .before .before .before .before in
+    let same = same-by-head (s .pre .1) (s .args .x) (s .args .y) (omega (arith, s .pre .0 .adds-up)) (omega (arith, s .pre .0 .adds-up)) in
     simp (
       lt-ltb _ _ (k .before .before .if1 .left),
       sym (k .before .conflict .ensures) ∙ not-false _ (k .if2 .left),
-      sym (c .before .related .ensures) ∙ c .if3 .taken,
-      and-false,
+      sym same ∙ eq-eqb _ _ (c .if3 .taken),
     )
 
 returns-4 : tie.Need-returns-4
 unfolding race
 returns-4 c =
-    let k = c .before .before .before .before in
+    let k = c .before .before .before .before .before in
+    let s = k .before .before .before .before .before .before in
+    let same = same-by-head (s .pre .1) (s .args .x) (s .args .y) (omega (arith, s .pre .0 .adds-up)) (omega (arith, s .pre .0 .adds-up)) in
     simp (
       lt-ltb _ _ (k .before .before .if1 .left),
       sym (k .before .conflict .ensures) ∙ not-false _ (k .if2 .left),
-      sym (c .before .related2 .ensures) ∙ c .if4 .taken,
-      and-false,
-    )
-
-returns-5 : tie.Need-returns-5
-unfolding race
-returns-5 c =
-    let i = c .before .before in
-    let k = i .before .before .before .before in
-    simp (
-      lt-ltb _ _ (k .before .before .if1 .left),
-      sym (k .before .conflict .ensures) ∙ not-false _ (k .if2 .left),
-      sym (i .before .before .before .related .ensures) ∙ i .before .before .if3 .left,
-      sym (i .before .related2 .ensures) ∙ i .if4 .left,
-      and-true,
-      c .before .thread-of .ensures,
-      c .thread-of2 .ensures,
+      sym same ∙ ne-eqb _ _ (c .before .before .if3 .left),
+      c .before .related .ensures,
+      c .related2 .ensures,
     )
 
 pub is-race-spec : {M : Type 1} → statement M
@@ -64,12 +54,13 @@ is-race-spec =
     (λ c. search needs)
     (λ c. search needs)
     (λ c. search needs)
-    (λ c κs. search needs)
+    (λ c. search needs)
     returns-3
     (λ c. search needs)
     (λ c. search needs)
+    (λ c. search needs)
     (λ c κs. search needs)
-    returns-4
+    (λ c. search needs)
+    (λ c. search needs)
     (λ c κs. search needs)
-    (λ c κs. search needs)
-    returns-5)
+    returns-4)

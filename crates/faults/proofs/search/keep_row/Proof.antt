@@ -1,0 +1,78 @@
+-- The faults with the numbers below j are added, and j is in the list. Assumes nothing.
+use mathlib.Core.Path.{_≡_, sym, ap, _∙_}
+use mathlib.Core.Logic.{⊎-elim}
+use mathlib.Core.List.{List}
+use Prim.Native.Nat.{_-_, _<_, min}
+use native.Mathlib.Omega.{arith}
+use Rattle.tables.specs.Limits.{mostRows}
+use Rattle.tables.specs.Rows.{rows}
+use Rattle.relation.specs.Table.{related}
+use Rattle.sheet.specs.declared.Pair.{Pair}
+use Rattle.sheet.specs.Sheet.{added, addAll}
+use Rattle.faults.specs.Faults.{pairOf}
+use Rattle.faults.proofs.Searching.{none-added, one-added}
+use Rattle.faults.proofs.Listing.{below, OnList, walk-begun, walk-on}
+use borrow.Author.Needs.{needs}
+use Rattle.faults.proofs.search.keep_row.Statement.{statement}
+use Rattle.faults.proofs.search.keep_row.Tie as tie
+
+abbrev Inv-loop : tie.InvT-loop
+Inv-loop fault commands lengths generations relation heads fronts nexts i m found₀ j₀ found j = (found ≡ addAll found₀ (below fault commands lengths generations (related relation (rows commands)) i j)) × OnList fault commands lengths generations (related relation (rows commands)) i j
+
+abbrev μ-loop : tie.MeasureT-loop
+μ-loop fault commands lengths generations relation heads fronts nexts i m found₀ j₀ found j = rows commands - j
+
+loop-holds : tie.Need-loop-holds Inv-loop μ-loop
+loop-holds c =
+    let a = c .before .before .before .before .before .args in
+    let (e, on) = walk-begun (a .fault) (a .commands .now) (a .lengths .now) (a .generations .now) (related (a .relation .now) (rows (a .commands .now))) (a .i) (c .first-candidate .ensures) in
+    (none-added (a .sheet) _ e, on)
+
+loop-less : tie.Need-loop-less Inv-loop μ-loop
+loop-less c =
+    let s = c .before .before .before .before .before .before .before .before .before .before in
+    let a = s .args in
+    let l = c .before .before .before .before .loop in
+    let W = walk-on (a .fault) (a .commands .now) (a .lengths .now) (a .generations .now) (related (a .relation .now) (rows (a .commands .now))) (a .i) (s .pre .2) (l .j) (c .before .before .before .loop-test .taken) (l .inv .1) in
+    omega (arith, W .higher)
+
+loop-again : tie.Need-loop-again Inv-loop μ-loop
+loop-again c =
+    let s = c .before .before .before .before .before .before .before .before .before .before in
+    let a = s .args in
+    let l = c .before .before .before .before .loop in
+    let W = walk-on (a .fault) (a .commands .now) (a .lengths .now) (a .generations .now) (related (a .relation .now) (rows (a .commands .now))) (a .i) (s .pre .2) (l .j) (c .before .before .before .loop-test .taken) (l .inv .1) in
+    let e = sym (c .before .before .is-fault .ensures) in (
+      ⊎-elim
+          (λ w.
+          w .3 ∙ w .2 .ensures ∙ ap (added (l .found)) (w .1 .ensures)
+          ∙ one-added (below (a .fault) (a .commands .now) (a .lengths .now) (a .generations .now) (related (a .relation .now) (rows (a .commands .now))) (a .i) (l .j)) _ (pairOf (a .fault) (a .i) (l .j)) (a .sheet) (l .inv .0) (W .more (e ∙ w .0 .taken)))
+          (λ w. w .1 ∙ l .inv .0 ∙ ap (addAll (a .sheet)) (sym (W .same (e ∙ w .0 .left))))
+          (c .before .if1 .came),
+      W .on,
+    )
+
+returns : tie.Need-returns Inv-loop μ-loop
+returns c =
+    let l = c .before .loop in
+    let a = c .before .before .before .before .before .before .before .args in
+    let e : min (l .j) (rows (a .commands .now)) ≡ rows (a .commands .now) = omega (arith, c .loop-test .left) in
+    rw e at (l .inv .0)
+
+pub keep-row-spec : {M : Type 1} → statement M
+unfolding mostRows
+keep-row-spec =
+    tie.close
+    (tie.spec
+    Inv-loop
+    μ-loop
+    (λ c κs. search needs)
+    loop-holds
+    (λ c κs. search needs)
+    (λ c κs. search needs)
+    (λ c κs. search needs)
+    (λ c. search needs)
+    (λ c. search needs)
+    loop-less
+    loop-again
+    returns)
