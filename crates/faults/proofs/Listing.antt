@@ -18,6 +18,9 @@ use Rattle.relation.proofs.Truth.{both, isnt, clashing}
 use Rattle.replay.specs.Step.{registers}
 use Rattle.order.specs.Order.{numberAt}
 use Rattle.sheet.specs.declared.Pair.{Pair}
+use Rattle.sheet.specs.declared.Sheet.{Sheet}
+use Rattle.sheet.specs.Sheet.{addAll}
+use Rattle.sheet.proofs.Sheets.{addAll-total}
 use Rattle.faults.specs.declared.faults.Fault.{Fault}
 use Rattle.faults.specs.declared.faults.Fault.the-variants.{Reuse, Race}
 use Rattle.faults.specs.Faults.{succeeds, reuse, conflict, race, faulty, pairOf, alongRow}
@@ -179,6 +182,9 @@ module _ (f : Fault) (commands lengths generations : List ℕ) (ρ : ℕ → ℕ
 
   pub below-few : (j : ℕ) → length (below j) ≤ j
   below-few j = omega (arith, row-length found (pairOf f i) (min j (rows commands)))
+
+  pub total-low : (s t : Sheet) (j : ℕ) → t ≡ addAll s (below j) → t .total ≤ s .total + j
+  total-low s t j e = omega (arith, ap (λ (u : Sheet). u .total) e, addAll-total s (below j), below-few j)
 
   -- j is in the list that i wants
   abbrev pub OnList : ℕ → Type 0

@@ -94,7 +94,10 @@ fn is_race(
         return false;
     }
     let m = (commands.len() / 3) as u32;
-    !related(relation, m, x as u32, y as u32) & !related(relation, m, y as u32, x as u32)
+    if related(relation, m, x as u32, y as u32) {
+        return false;
+    }
+    !related(relation, m, y as u32, x as u32)
 }
 
 // The search goes by an outer number i and an inner number j. For reuse i is c2 and j is c1; for races i is x and j is y.

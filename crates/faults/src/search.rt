@@ -1,7 +1,8 @@
 // The one ordered search that serves both tests: each outer number walks its list.
 ghost use mathlib.Core.Path.{_≡_};
-ghost use Prim.Native.Nat.{_<_};
+ghost use Prim.Native.Nat.{_*_, _≤_, _<_};
 ghost use lib.ListN.{length};
+ghost use Rattle.tables.specs.Limits.{mostRows};
 ghost use Rattle.tables.specs.Rows.{rows};
 ghost use Rattle.relation.specs.Table.{related};
 ghost use Rattle.order.specs.Order.{numberAt};
@@ -44,7 +45,7 @@ fn count_row(
     count
 }
 
-// The faults of outer number i, added to a sheet.
+// The faults of outer number i, added to a sheet. A pair is lent with the sheet only while it has room: to copy it costs more than to find the pair.
 fn keep_row(
     sheet: Sheet,
     fault: Fault,
@@ -57,7 +58,7 @@ fn keep_row(
     nexts: &[usize; Table::ROWS],
     i: usize,
 ) -> Sheet
-    requires { ⌜ (i < rows (now commands)) × Searches (now commands) (now lengths) (now generations) (now heads) × Lists fault (now commands) (now generations) (now fronts) (now nexts) 0 ⌝ }
+    requires { ⌜ (sheet .total ≤ mostRows * mostRows) × (i < rows (now commands)) × Searches (now commands) (now lengths) (now generations) (now heads) × Lists fault (now commands) (now generations) (now fronts) (now nexts) 0 ⌝ }
     ensures { λ r. ⌜ r ≡ addAll sheet (alongRow (faulty (now (commands .entry)) (now (lengths .entry)) (numberAt (now (generations .entry))) (related (now (relation .entry)) (rows (now (commands .entry)))) fault i) (pairOf fault i) (rows (now (commands .entry)))) ⌝ }
 {
     let m = commands.len() / 3;
@@ -65,7 +66,11 @@ fn keep_row(
     let mut j = first_candidate(fault, commands, generations, fronts, nexts, i);
     while j < m {
         if is_fault(fault, commands, lengths, generations, relation, heads, i, j) {
-            found = with_pair(found, pair_of(fault, i, j));
+            if found.total < Sheet::KEPT {
+                found = with_pair(found, pair_of(fault, i, j));
+            } else {
+                found.total += 1;
+            }
         }
         j = nexts[j];
     }

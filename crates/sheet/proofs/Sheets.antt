@@ -53,6 +53,16 @@ pub counted-on : (ps qs : List Pair) → mostKept ≤ length ps → record { pai
 unfolding sheetOf
 counted-on ps qs h = ap₂ (λ (l : List Pair) (n : ℕ). record { pairs = l; total = n }) (full mostKept ps qs h) (sym (length-append ps qs))
 
+pub added-full : (s : Sheet) (p : Pair) → mostKept ≤ s .total → s .total < mostCounted → record { pairs = s .pairs; total = s .total + 1 } ≡ added s p
+unfolding added
+added-full s p h l = rw (le-ltb (s .total) mostKept h) (ap (λ (n : ℕ). record { pairs = s .pairs; total = n }) (omega arith))
+
+-- no pair counts twice
+pub addAll-total : (s : Sheet) (ps : List Pair) → addAll s ps .total ≤ s .total + length ps
+unfolding addAll added
+addAll-total s [] = omega arith
+addAll-total s (p ∷ ps) = omega (arith, addAll-total (added s p) ps)
+
 pub sheet-total : (ps : List Pair) → sheetOf ps .total ≡ length ps
 unfolding sheetOf
 sheet-total ps = refl

@@ -39,8 +39,21 @@ returns-4 c =
       lt-ltb _ _ (k .before .before .if1 .left),
       sym (k .before .conflict .ensures) ∙ not-false _ (k .if2 .left),
       sym same ∙ ne-eqb _ _ (c .before .before .if3 .left),
-      c .before .related .ensures,
-      c .related2 .ensures,
+      sym (c .before .related .ensures) ∙ c .if4 .taken,
+    )
+
+returns-5 : tie.Need-returns-5
+unfolding race
+returns-5 c =
+    let k = c .before .before .before .before .before .before in
+    let s = k .before .before .before .before .before .before in
+    let same = same-by-head (s .pre .1) (s .args .x) (s .args .y) (omega (arith, s .pre .0 .adds-up)) (omega (arith, s .pre .0 .adds-up)) in
+    simp (
+      lt-ltb _ _ (k .before .before .if1 .left),
+      sym (k .before .conflict .ensures) ∙ not-false _ (k .if2 .left),
+      sym same ∙ ne-eqb _ _ (c .before .before .before .if3 .left),
+      sym (c .before .before .related .ensures) ∙ c .before .if4 .left,
+      ← c .related2 .ensures,
     )
 
 pub is-race-spec : {M : Type 1} → statement M
@@ -60,7 +73,8 @@ is-race-spec =
     (λ c. search needs)
     (λ c. search needs)
     (λ c κs. search needs)
+    returns-4
     (λ c. search needs)
     (λ c. search needs)
     (λ c κs. search needs)
-    returns-4)
+    returns-5)

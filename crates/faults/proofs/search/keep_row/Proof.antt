@@ -7,11 +7,11 @@ use native.Mathlib.Omega.{arith}
 use Rattle.tables.specs.Limits.{mostRows}
 use Rattle.tables.specs.Rows.{rows}
 use Rattle.relation.specs.Table.{related}
-use Rattle.sheet.specs.declared.Pair.{Pair}
-use Rattle.sheet.specs.Sheet.{added, addAll}
+use Rattle.sheet.specs.Sheet.{mostKept, mostCounted, added, addAll}
+use Rattle.sheet.proofs.Sheets.{added-full}
 use Rattle.faults.specs.Faults.{pairOf}
 use Rattle.faults.proofs.Searching.{none-added, one-added}
-use Rattle.faults.proofs.Listing.{below, OnList, walk-begun, walk-on}
+use Rattle.faults.proofs.Listing.{below, OnList, walk-begun, walk-on, total-low}
 use borrow.Author.Needs.{needs}
 use Rattle.faults.proofs.search.keep_row.Statement.{statement}
 use Rattle.faults.proofs.search.keep_row.Tie as tie
@@ -28,26 +28,38 @@ loop-holds c =
     let (e, on) = walk-begun (a .fault) (a .commands .now) (a .lengths .now) (a .generations .now) (related (a .relation .now) (rows (a .commands .now))) (a .i) (c .first-candidate .ensures) in
     (none-added (a .sheet) _ e, on)
 
+add-found : tie.Need-add-found Inv-loop μ-loop
+unfolding mostRows
+add-found c =
+    let s = c .before .before .before .before .before .before .before .before .before .before .before .before in
+    let a = s .args in
+    let l = c .before .before .before .before .before .before .loop in
+    omega (arith, total-low (a .fault) (a .commands .now) (a .lengths .now) (a .generations .now) (related (a .relation .now) (rows (a .commands .now))) (a .i) (a .sheet) (l .found) (l .j) (l .inv .0), s .pre .0, c .before .before .before .before .before .loop-test .taken, s .pre .2 .keeps .few-rows)
+
 loop-less : tie.Need-loop-less Inv-loop μ-loop
 loop-less c =
     let s = c .before .before .before .before .before .before .before .before .before .before in
     let a = s .args in
     let l = c .before .before .before .before .loop in
-    let W = walk-on (a .fault) (a .commands .now) (a .lengths .now) (a .generations .now) (related (a .relation .now) (rows (a .commands .now))) (a .i) (s .pre .2) (l .j) (c .before .before .before .loop-test .taken) (l .inv .1) in
+    let W = walk-on (a .fault) (a .commands .now) (a .lengths .now) (a .generations .now) (related (a .relation .now) (rows (a .commands .now))) (a .i) (s .pre .3) (l .j) (c .before .before .before .loop-test .taken) (l .inv .1) in
     omega (arith, W .higher)
 
 loop-again : tie.Need-loop-again Inv-loop μ-loop
+unfolding mostRows mostKept mostCounted
 loop-again c =
     let s = c .before .before .before .before .before .before .before .before .before .before in
     let a = s .args in
     let l = c .before .before .before .before .loop in
-    let W = walk-on (a .fault) (a .commands .now) (a .lengths .now) (a .generations .now) (related (a .relation .now) (rows (a .commands .now))) (a .i) (s .pre .2) (l .j) (c .before .before .before .loop-test .taken) (l .inv .1) in
-    let e = sym (c .before .before .is-fault .ensures) in (
-      ⊎-elim
-          (λ w.
-          w .3 ∙ w .2 .ensures ∙ ap (added (l .found)) (w .1 .ensures)
-          ∙ one-added (below (a .fault) (a .commands .now) (a .lengths .now) (a .generations .now) (related (a .relation .now) (rows (a .commands .now))) (a .i) (l .j)) _ (pairOf (a .fault) (a .i) (l .j)) (a .sheet) (l .inv .0) (W .more (e ∙ w .0 .taken)))
-          (λ w. w .1 ∙ l .inv .0 ∙ ap (addAll (a .sheet)) (sym (W .same (e ∙ w .0 .left))))
+    let h = c .before .before .before .loop-test .taken in
+    let W = walk-on (a .fault) (a .commands .now) (a .lengths .now) (a .generations .now) (related (a .relation .now) (rows (a .commands .now))) (a .i) (s .pre .3) (l .j) h (l .inv .1) in
+    let p = pairOf (a .fault) (a .i) (l .j) in
+    let e = sym (c .before .before .is-fault .ensures) in
+    let few = total-low (a .fault) (a .commands .now) (a .lengths .now) (a .generations .now) (related (a .relation .now) (rows (a .commands .now))) (a .i) (a .sheet) (l .found) (l .j) (l .inv .0) in (
+      ⊎-elim (λ w. w .5 ∙ w .4 .ensures ∙ ap (added (l .found)) (w .3 .ensures) ∙ one-added (below (a .fault) (a .commands .now) (a .lengths .now) (a .generations .now) (related (a .relation .now) (rows (a .commands .now))) (a .i) (l .j)) _ p (a .sheet) (l .inv .0) (W .more (e ∙ w .0 .taken)))
+          (⊎-elim
+          (λ w. w .4 ∙ added-full (l .found) p (w .2 .left) (omega (arith, few, s .pre .0, h, s .pre .2 .keeps .few-rows))
+          ∙ one-added (below (a .fault) (a .commands .now) (a .lengths .now) (a .generations .now) (related (a .relation .now) (rows (a .commands .now))) (a .i) (l .j)) _ p (a .sheet) (l .inv .0) (W .more (e ∙ w .0 .taken)))
+          (λ w. w .1 ∙ l .inv .0 ∙ ap (addAll (a .sheet)) (sym (W .same (e ∙ w .0 .left)))))
           (c .before .if1 .came),
       W .on,
     )
@@ -60,7 +72,7 @@ returns c =
     rw e at (l .inv .0)
 
 pub keep-row-spec : {M : Type 1} → statement M
-unfolding mostRows
+unfolding mostRows mostKept
 keep-row-spec =
     tie.close
     (tie.spec
@@ -71,6 +83,7 @@ keep-row-spec =
     (λ c κs. search needs)
     (λ c κs. search needs)
     (λ c κs. search needs)
+    add-found
     (λ c. search needs)
     (λ c. search needs)
     loop-less

@@ -25,6 +25,20 @@ loop-holds c =
     let a = c .before .before .before .before .before .args in
     (search needs, c .empty .ensures ∙ all-none (faulty (a .commands .now) (a .lengths .now) (numberAt (a .generations .now)) (related (a .relation .now) (rows (a .commands .now))) (a .fault)) (pairOf (a .fault)) (rows (a .commands .now)))
 
+keep-row-requires : tie.Need-keep-row-requires Inv-loop μ-loop
+unfolding mostRows
+keep-row-requires c κs =
+    let s = c .before .before .before .before .before .before .before .before .before .before .before in
+    let a = s .args in
+    let l = c .before .before .before .before .before .loop in
+    let n = c .before .before .before .count-row in
+    let low = c .before .before .before .before .loop-test .taken in (
+      omega (arith, total-few (faulty (a .commands .now) (a .lengths .now) (numberAt (a .generations .now)) (related (a .relation .now) (rows (a .commands .now))) (a .fault)) (pairOf (a .fault)) (rows (a .commands .now)) (l .found) (l .found) (l .i) (n .result) (s .pre .0 .keeps .few-rows) low (l .inv .1) (n .ensures)),
+      low,
+      s .pre .0,
+      s .pre .1,
+    )
+
 add-found : tie.Need-add-found Inv-loop μ-loop
 unfolding mostRows
 add-found c =
@@ -67,7 +81,7 @@ search-rows-spec =
     (λ c κs. search needs)
     loop-holds
     (λ c κs. search needs)
-    (λ c κs. search needs)
+    keep-row-requires
     add-found
     (λ c. search needs)
     (λ c. search needs)
