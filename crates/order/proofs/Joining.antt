@@ -41,28 +41,28 @@ pub one-more : (led : Bool) (c n i k : ℕ) → FromTo led c (n + 1) i k → Fro
 one-more led c n i k F =
     by-cases (ℕ-discrete k n) (λ (e : k ≡ n). inr (F .from, e)) (λ (d : k ≢ n). inl (record { alone = F .alone; from = F .from; to = omega (arith, F .to) }))
 
-module _ (commands generations bases leaders : List ℕ) (led : Bool) where
-  pub pulls-all : (c l : ℕ) → l ≡ leader commands generations bases leaders c → (i k : ℕ) → Pulls commands generations bases leaders led c i k
+module _ (commands generations leaders : List ℕ) (led : Bool) where
+  pub pulls-all : (c l : ℕ) → l ≡ leader commands generations leaders c → (i k : ℕ) → Pulls commands generations leaders led c i k
       → ((At c (c + 1) i k ⊎ At c l i k) ⊎ At l c i k) ⊎ FromTo led c (rows commands) i k
   pulls-all c l e i k next = inl (inl (inl (refl, refl)))
   pulls-all c l e i k to = inl (inl (inr (refl, sym e)))
   pulls-all c l e i k from = inl (inr (sym e, refl))
   pulls-all c l e i k (each f lk) = inr (record { alone = f; from = refl; to = lk })
 
-  pub sweeps-more : (c i k : ℕ) → Sweeps commands generations bases leaders led (c - 1) i k
-      → Sweeps commands generations bases leaders led c i k ⊎ Pulls commands generations bases leaders led (c - 1) i k
+  pub sweeps-more : (c i k : ℕ) → Sweeps commands generations leaders led (c - 1) i k
+      → Sweeps commands generations leaders led c i k ⊎ Pulls commands generations leaders led (c - 1) i k
   sweeps-more c i k S =
       by-cases (ℕ-discrete (S .one) (c - 1)) (λ (e : S .one ≡ c - 1). inr (rw e at (S .pulls)))
       (λ (d : S .one ≢ c - 1). inl (record { one = S .one; low = omega (arith, S .low); high = S .high; pulls = S .pulls }))
 
 -- ---- leaders
 
-module _ (commands generations bases leaders : List ℕ) where
-  pub led-more : (c : ℕ) → LedBelow commands generations bases leaders c
+module _ (commands generations leaders : List ℕ) where
+  pub led-more : (c : ℕ) → LedBelow commands generations leaders c
       → (syncs commands c ≡ true
-      → (leader commands generations bases leaders c < rows commands)
-      × (order-meets commands (numberAt generations) c (leader commands generations bases leaders c) ≡ true))
-      → LedBelow commands generations bases leaders (c + 1)
+      → (leader commands generations leaders c < rows commands)
+      × (order-meets commands (numberAt generations) c (leader commands generations leaders c) ≡ true))
+      → LedBelow commands generations leaders (c + 1)
   led-more c L N x l s = by-cases (ℕ-discrete x c) (λ (q : x ≡ c). rw q (N (rw (sym q) s))) (λ (n : x ≢ c). L x (omega arith) s)
 
 -- a sync registers
@@ -71,12 +71,12 @@ sync-registers commands c e = let k = eqb-true (kind commands c) sync e in le-le
 
 -- ---- a sweep that changed nothing
 
-module _ (commands lengths generations bases leaders r : List ℕ) (led : Bool) (L : led ≡ true → Led commands generations bases leaders)
-    (A : (i k : ℕ) → Sweeps commands generations bases leaders led 0 i k → Edges commands lengths generations i k → Takes r (rows commands) i k) where
+module _ (commands lengths generations leaders r : List ℕ) (led : Bool) (L : led ≡ true → Led commands generations leaders)
+    (A : (i k : ℕ) → Sweeps commands generations leaders led 0 i k → Edges commands lengths generations i k → Takes r (rows commands) i k) where
   abbrev lead : ℕ → ℕ
-  lead = leader commands generations bases leaders
+  lead = leader commands generations leaders
 
-  pulled : (c i k : ℕ) → c < rows commands → Pulls commands generations bases leaders led c i k → Edges commands lengths generations i k
+  pulled : (c i k : ℕ) → c < rows commands → Pulls commands generations leaders led c i k → Edges commands lengths generations i k
       → Takes r (rows commands) i k
   pulled c i k l p = A i k (record { one = c; low = omega arith; high = l; pulls = p })
 
@@ -105,13 +105,13 @@ module _ (commands lengths generations bases leaders r : List ℕ) (led : Bool) 
       (λ (f : led ≡ false). pulled i i k li (each f lk) (meets li lk ri sk a e))
       (split led)
 
-pub settled : {commands lengths generations bases leaders b r s : List ℕ} {led said : Bool} → (led ≡ true → Led commands generations bases leaders)
+pub settled : {commands lengths generations leaders b r s : List ℕ} {led said : Bool} → (led ≡ true → Led commands generations leaders)
     → Joined (Edges commands lengths generations) (rows commands) b r
-    → Along commands lengths generations (Sweeps commands generations bases leaders led 0) r s said → said ≡ false → Settled commands lengths generations b s
-settled {commands} {lengths} {generations} {bases} {leaders} {b} {r} {s} {led} L J P f =
+    → Along commands lengths generations (Sweeps commands generations leaders led 0) r s said → said ≡ false → Settled commands lengths generations b s
+settled {commands} {lengths} {generations} {leaders} {b} {r} {s} {led} L J P f =
     record {
       joins = joined-join J (P .joins);
-      closed = rw (P .still f) (taken commands lengths generations bases leaders r led L (P .takes f));
+      closed = rw (P .still f) (taken commands lengths generations leaders r led L (P .takes f));
     }
 
 -- ---- all together

@@ -32,18 +32,18 @@ pub record FromTo (led : Bool) (c n i k : ℕ) : Type 0 where
   pub to : k < n
 
 -- what is tried for command c: its next, its leader both ways, and unless syncs are led each command
-pub data Pulls (commands generations bases leaders : List ℕ) (led : Bool) (c : ℕ) : ℕ → ℕ → Type 0 where
-  next : Pulls commands generations bases leaders led c c (c + 1)
-  to : Pulls commands generations bases leaders led c c (leader commands generations bases leaders c)
-  from : Pulls commands generations bases leaders led c (leader commands generations bases leaders c) c
-  each : {k : ℕ} → led ≡ false → k < rows commands → Pulls commands generations bases leaders led c c k
+pub data Pulls (commands generations leaders : List ℕ) (led : Bool) (c : ℕ) : ℕ → ℕ → Type 0 where
+  next : Pulls commands generations leaders led c c (c + 1)
+  to : Pulls commands generations leaders led c c (leader commands generations leaders c)
+  from : Pulls commands generations leaders led c (leader commands generations leaders c) c
+  each : {k : ℕ} → led ≡ false → k < rows commands → Pulls commands generations leaders led c c k
 
 -- what is tried in a sweep from the last command down to c
-pub record Sweeps (commands generations bases leaders : List ℕ) (led : Bool) (c i k : ℕ) : Type 0 where
+pub record Sweeps (commands generations leaders : List ℕ) (led : Bool) (c i k : ℕ) : Type 0 where
   pub one : ℕ
   pub low : c ≤ one
   pub high : one < rows commands
-  pub pulls : Pulls commands generations bases leaders led one i k
+  pub pulls : Pulls commands generations leaders led one i k
 
 -- rows were joined along edges until each edge was taken
 pub record Settled (commands lengths generations before after : List ℕ) : Type 0 where

@@ -8,6 +8,7 @@ ghost use Rattle.order.specs.Order.{Roomy};
 ghost use Rattle.order.specs.Leaders.{Led};
 ghost use Rattle.order.specs.Closing.{Along, Ready, FromTo, Pulls, Sweeps, Settled};
 use crate::edges::edge;
+use crate::leaders::SEATS;
 use crate::leaders::all_led;
 use crate::leaders::choose;
 use crate::leaders::leader;
@@ -74,16 +75,15 @@ fn pull(
     lengths: &[u32],
     generations: &[u32],
     heads: &[usize; Table::ROWS],
-    bases: &[usize; Table::BARRIERS],
-    leaders: &[usize; Table::ROWS],
+    leaders: &[u16; SEATS],
     led: bool,
     relation: &mut [u32],
     c: usize,
 ) -> bool
     requires { ⌜ (c < rows (now commands)) × Ready (now commands) (now lengths) (now generations) (now heads) (now relation) ⌝ }
-    ensures { λ r. ⌜ Along (now (commands .entry)) (now (lengths .entry)) (now (generations .entry)) (Pulls (now (commands .entry)) (now (generations .entry)) (now (bases .entry)) (now (leaders .entry)) led c) (now (relation .entry)) (now (relation .exit)) r ⌝ }
+    ensures { λ r. ⌜ Along (now (commands .entry)) (now (lengths .entry)) (now (generations .entry)) (Pulls (now (commands .entry)) (now (generations .entry)) (now (leaders .entry)) led c) (now (relation .entry)) (now (relation .exit)) r ⌝ }
 {
-    let l = leader(commands, generations, bases, leaders, c);
+    let l = leader(commands, generations, leaders, c);
     let next = join_along(commands, lengths, generations, heads, relation, c, c + 1);
     let to = join_along(commands, lengths, generations, heads, relation, c, l);
     let from = join_along(commands, lengths, generations, heads, relation, l, c);
@@ -97,13 +97,12 @@ fn sweep(
     lengths: &[u32],
     generations: &[u32],
     heads: &[usize; Table::ROWS],
-    bases: &[usize; Table::BARRIERS],
-    leaders: &[usize; Table::ROWS],
+    leaders: &[u16; SEATS],
     led: bool,
     relation: &mut [u32],
 ) -> bool
     requires { ⌜ Ready (now commands) (now lengths) (now generations) (now heads) (now relation) ⌝ }
-    ensures { λ r. ⌜ Along (now (commands .entry)) (now (lengths .entry)) (now (generations .entry)) (Sweeps (now (commands .entry)) (now (generations .entry)) (now (bases .entry)) (now (leaders .entry)) led 0) (now (relation .entry)) (now (relation .exit)) r ⌝ }
+    ensures { λ r. ⌜ Along (now (commands .entry)) (now (lengths .entry)) (now (generations .entry)) (Sweeps (now (commands .entry)) (now (generations .entry)) (now (leaders .entry)) led 0) (now (relation .entry)) (now (relation .exit)) r ⌝ }
 {
     let mut changed = false;
     let mut c = commands.len() / 3;
@@ -114,7 +113,6 @@ fn sweep(
             lengths,
             generations,
             heads,
-            bases,
             leaders,
             led,
             relation,
@@ -131,12 +129,11 @@ fn settle(
     lengths: &[u32],
     generations: &[u32],
     heads: &[usize; Table::ROWS],
-    bases: &[usize; Table::BARRIERS],
-    leaders: &[usize; Table::ROWS],
+    leaders: &[u16; SEATS],
     led: bool,
     relation: &mut [u32],
 )
-    requires { ⌜ Ready (now commands) (now lengths) (now generations) (now heads) (now relation) × (led ≡ true → Led (now commands) (now generations) (now bases) (now leaders)) ⌝ }
+    requires { ⌜ Ready (now commands) (now lengths) (now generations) (now heads) (now relation) × (led ≡ true → Led (now commands) (now generations) (now leaders)) ⌝ }
     ensures { λ r. ⌜ Settled (now (commands .entry)) (now (lengths .entry)) (now (generations .entry)) (now (relation .entry)) (now (relation .exit)) ⌝ }
 {
     loop {
@@ -145,7 +142,6 @@ fn settle(
             lengths,
             generations,
             heads,
-            bases,
             leaders,
             led,
             relation,
@@ -168,16 +164,14 @@ pub(crate) fn close_along(
 {
     let mut heads = [0; Table::ROWS];
     put_heads(lengths, &mut heads);
-    let mut bases = [0; Table::BARRIERS];
-    let mut leaders = [Table::ROWS; Table::ROWS];
-    choose(commands, generations, &mut bases, &mut leaders);
-    let led = all_led(commands, generations, &bases, &leaders);
+    let mut leaders = [0u16; SEATS];
+    choose(commands, generations, &mut leaders);
+    let led = all_led(commands, generations, &leaders);
     settle(
         commands,
         lengths,
         generations,
         &heads,
-        &bases,
         &leaders,
         led,
         relation,

@@ -6,9 +6,12 @@ ghost use lib.ListN.{length};
 ghost use Rattle.tables.specs.Limits.{mostRows};
 ghost use Rattle.tables.specs.Rows.{rows};
 ghost use Rattle.order.specs.Order.{Command};
-ghost use Rattle.order.specs.Leaders.{seat, leader, Led};
+ghost use Rattle.order.specs.Leaders.{seats, seat, leader, Led};
 use crate::edges::meets;
 use tables::Table;
+
+// A seat for each barrier and each generation that a review can have.
+pub(crate) const SEATS: usize = Table::ROWS * Table::BARRIERS;
 
 // A number of 32 bits among those of an index.
 fn wide(x: u32) -> usize
@@ -17,103 +20,61 @@ fn wide(x: u32) -> usize
     x as usize
 }
 
-// How many commands register at each barrier. Remainders keep any sum from wrapping; the few numbers here are below them.
-fn count(commands: &[u32], bases: &mut [usize; Table::BARRIERS]) {
-    let m = commands.len() / 3;
-    let mut c = 0;
-    while c < m {
-        if Table::ARRIVE <= commands[c * 3] {
-            let barrier = wide(commands[c * 3 + 1]) % Table::BARRIERS;
-            bases[barrier] = bases[barrier] % Table::ROWS + 1;
-        }
-        c += 1;
-    }
-}
-
-// Each barrier's seats begin after those of the barriers before it. A barrier has no more generations than commands, so no two share a seat.
-fn add_up(bases: &mut [usize; Table::BARRIERS]) {
-    let mut sum = 0;
-    let mut barrier = 0;
-    while barrier < Table::BARRIERS {
-        let seats = bases[barrier] % (Table::ROWS + 1);
-        bases[barrier] = sum % Table::ROWS;
-        sum = sum % Table::ROWS + seats;
-        barrier += 1;
-    }
+// A number of 16 bits among those of an index.
+fn wide_seat(x: u16) -> usize
+    ensures { λ r. ⌜ r ≡ x ⌝ }
+{
+    x as usize
 }
 
 // The seat of c's barrier and generation.
-fn seat(commands: &[u32], generations: &[u32], bases: &[usize; Table::BARRIERS], c: usize) -> usize
+fn seat(commands: &[u32], generations: &[u32], c: usize) -> usize
     requires { ⌜ Command (now commands) (now generations) c ⌝ }
-    ensures { λ r. ⌜ (r ≡ seat (now (commands .entry)) (now (generations .entry)) (now (bases .entry)) c) × (r < mostRows) ⌝ }
+    ensures { λ r. ⌜ (r ≡ seat (now (commands .entry)) (now (generations .entry)) c) × (r < seats) ⌝ }
 {
-    let base = bases[wide(commands[c * 3 + 1]) % Table::BARRIERS];
-    (base % Table::ROWS + wide(generations[c])) % Table::ROWS
+    let barrier = wide(commands[c * 3 + 1]) % Table::BARRIERS;
+    (wide(generations[c]) * Table::BARRIERS + barrier) % SEATS
 }
 
 // The leader of c's barrier and generation.
 pub(crate) fn leader(
     commands: &[u32],
     generations: &[u32],
-    bases: &[usize; Table::BARRIERS],
-    leaders: &[usize; Table::ROWS],
+    leaders: &[u16; SEATS],
     c: usize,
 ) -> usize
     requires { ⌜ Command (now commands) (now generations) c ⌝ }
-    ensures { λ r. ⌜ r ≡ leader (now (commands .entry)) (now (generations .entry)) (now (bases .entry)) (now (leaders .entry)) c ⌝ }
+    ensures { λ r. ⌜ r ≡ leader (now (commands .entry)) (now (generations .entry)) (now (leaders .entry)) c ⌝ }
 {
-    leaders[seat(commands, generations, bases, c)]
+    let at = seat(commands, generations, c);
+    wide_seat(leaders[at])
 }
 
 // The last sync of each barrier and generation takes the seat.
-fn sit(
-    commands: &[u32],
-    generations: &[u32],
-    bases: &[usize; Table::BARRIERS],
-    leaders: &mut [usize; Table::ROWS],
-)
-    requires { ⌜ rows (now commands) ≤ length (now generations) ⌝ }
+pub(crate) fn choose(commands: &[u32], generations: &[u32], leaders: &mut [u16; SEATS])
+    requires { ⌜ (rows (now commands) ≤ mostRows) × (rows (now commands) ≤ length (now generations)) ⌝ }
 {
     let m = commands.len() / 3;
     let mut c = 0;
     while c < m {
         if commands[c * 3] == Table::SYNC {
-            let at = seat(commands, generations, bases, c);
-            leaders[at] = c;
+            let at = seat(commands, generations, c);
+            leaders[at] = c as u16;
         }
         c += 1;
     }
 }
 
-// Bases and leaders.
-pub(crate) fn choose(
-    commands: &[u32],
-    generations: &[u32],
-    bases: &mut [usize; Table::BARRIERS],
-    leaders: &mut [usize; Table::ROWS],
-)
-    requires { ⌜ rows (now commands) ≤ length (now generations) ⌝ }
-{
-    count(commands, bases);
-    add_up(bases);
-    sit(commands, generations, bases, leaders);
-}
-
 // Does each sync meet its leader?
-pub(crate) fn all_led(
-    commands: &[u32],
-    generations: &[u32],
-    bases: &[usize; Table::BARRIERS],
-    leaders: &[usize; Table::ROWS],
-) -> bool
+pub(crate) fn all_led(commands: &[u32], generations: &[u32], leaders: &[u16; SEATS]) -> bool
     requires { ⌜ rows (now commands) ≤ length (now generations) ⌝ }
-    ensures { λ r. ⌜ (r ≡ true → Led (now (commands .entry)) (now (generations .entry)) (now (bases .entry)) (now (leaders .entry))) ⌝ }
+    ensures { λ r. ⌜ (r ≡ true → Led (now (commands .entry)) (now (generations .entry)) (now (leaders .entry))) ⌝ }
 {
     let m = commands.len() / 3;
     let mut c = 0;
     while c < m {
         if commands[c * 3] == Table::SYNC {
-            let l = leader(commands, generations, bases, leaders, c);
+            let l = leader(commands, generations, leaders, c);
             if m <= l {
                 return false;
             }

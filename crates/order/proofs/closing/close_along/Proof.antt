@@ -11,10 +11,10 @@ use Rattle.order.proofs.closing.close_along.Tie as tie
 settle-requires : tie.Need-settle-requires
 unfolding mostRows
 settle-requires c κs =
-    let p = c .before .before .before .before .before .before .before .before .before .before .before in
+    let p = c .before .before .before .before .before .before .before .before in
     let R = p .before .before .before .before .before .before .pre in (
       record { roomy = R; headed = headed (omega (arith, R .keeps .adds-up, R .keeps .few-rows, length-replicate {A = ℕ} 512 0)) (p .put-heads .ensures) },
-      c .before .before .before .before .all-led .ensures,
+      c .before .before .before .all-led .ensures,
     )
 
 pub close-along-spec : {M : Type 1} → statement M

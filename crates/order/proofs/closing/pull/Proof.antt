@@ -31,7 +31,7 @@ returns c =
     let r = s .before .before .before .before in
     let l = r .before .before in
     let a = l .before .before .before .before .before .args in
-    pass-part (pulls-all (a .commands .now) (a .generations .now) (a .bases .now) (a .leaders .now) (a .led) (a .c) (l .leader .result) (l .leader .ensures))
+    pass-part (pulls-all (a .commands .now) (a .generations .now) (a .leaders .now) (a .led) (a .c) (l .leader .result) (l .leader .ensures))
     (pass-join (pass-join (pass-join (r .join-along .ensures) (s .join-along2 .ensures)) (t .join-along3 .ensures)) (u .join-each .ensures))
 
 pub pull-spec : {M : Type 1} → statement M

@@ -10,10 +10,10 @@ use Rattle.order.proofs.closing.settle.Statement.{statement}
 use Rattle.order.proofs.closing.settle.Tie as tie
 
 abbrev Inv-loop : tie.InvT-loop
-Inv-loop commands lengths generations heads bases leaders led relation₀ relation = Joined (Edges commands lengths generations) (rows commands) relation₀ relation
+Inv-loop commands lengths generations heads leaders led relation₀ relation = Joined (Edges commands lengths generations) (rows commands) relation₀ relation
 
 abbrev μ-loop : tie.MeasureT-loop
-μ-loop commands lengths generations heads bases leaders led relation₀ relation = left-to-grow relation
+μ-loop commands lengths generations heads leaders led relation₀ relation = left-to-grow relation
 
 loop-holds : tie.Need-loop-holds Inv-loop μ-loop
 loop-holds c = none

@@ -11,10 +11,10 @@ use Rattle.order.proofs.closing.sweep.Statement.{statement}
 use Rattle.order.proofs.closing.sweep.Tie as tie
 
 abbrev Inv-loop : tie.InvT-loop
-Inv-loop commands lengths generations heads bases leaders led relation₀ changed₀ c₀ relation changed c = (c ≤ rows commands) × Along commands lengths generations (Sweeps commands generations bases leaders led c) relation₀ relation changed
+Inv-loop commands lengths generations heads leaders led relation₀ changed₀ c₀ relation changed c = (c ≤ rows commands) × Along commands lengths generations (Sweeps commands generations leaders led c) relation₀ relation changed
 
 abbrev μ-loop : tie.MeasureT-loop
-μ-loop commands lengths generations heads bases leaders led relation₀ changed₀ c₀ relation changed c = c
+μ-loop commands lengths generations heads leaders led relation₀ changed₀ c₀ relation changed c = c
 
 loop-holds : tie.Need-loop-holds Inv-loop μ-loop
 loop-holds c = (search needs, pass-none (λ i k s e. absurd (omega (arith, s .low, s .high))))
@@ -27,7 +27,7 @@ loop-again c =
     let l = c .before .before .before .before .before .loop in
     let a = c .before .before .before .before .before .before .before .before .before .before .args in (
       search needs,
-      pass-part (sweeps-more (a .commands .now) (a .generations .now) (a .bases .now) (a .leaders .now) (a .led) (l .c))
+      pass-part (sweeps-more (a .commands .now) (a .generations .now) (a .leaders .now) (a .led) (l .c))
           (pass-join (l .inv .1) (c .before .before .pull .ensures)),
     )
 

@@ -13,10 +13,10 @@ use Rattle.order.proofs.leaders.all_led.Statement.{statement}
 use Rattle.order.proofs.leaders.all_led.Tie as tie
 
 abbrev Inv-loop : tie.InvT-loop
-Inv-loop commands generations bases leaders m c₀ c = (c ≤ rows commands) × LedBelow commands generations bases leaders c
+Inv-loop commands generations leaders m c₀ c = (c ≤ rows commands) × LedBelow commands generations leaders c
 
 abbrev μ-loop : tie.MeasureT-loop
-μ-loop commands generations bases leaders m c₀ c = rows commands - c
+μ-loop commands generations leaders m c₀ c = rows commands - c
 
 loop-holds : tie.Need-loop-holds Inv-loop μ-loop
 loop-holds c = (search needs, λ x l s. absurd (omega arith))
@@ -32,7 +32,7 @@ loop-again c =
     let l = c .before .before .before .loop in
     let a = c .before .before .before .before .before .before .args in (
       search needs,
-      led-more (a .commands .now) (a .generations .now) (a .bases .now) (a .leaders .now) (l .c) (l .inv .1)
+      led-more (a .commands .now) (a .generations .now) (a .leaders .now) (l .c) (l .inv .1)
           (λ t.
           ⊎-elim
           (λ w.

@@ -1,8 +1,7 @@
--- Remainders of a base and a generation. Assumes nothing.
+-- A remainder of a generation and a barrier. Assumes nothing.
 use mathlib.Core.Path.{ap₂}
-use Prim.Native.Nat.{ℕ, _+_, _%_}
+use Prim.Native.Nat.{ℕ, _+_, _*_, _%_}
 use native.Mathlib.Omega.{arith}
-use lib.ListN.{getD}
 use Rattle.tables.specs.Limits.{mostRows, barriers}
 use borrow.Author.Needs.{needs}
 use Rattle.order.proofs.leaders.seat.Statement.{statement}
@@ -11,8 +10,7 @@ use Rattle.order.proofs.leaders.seat.Tie as tie
 returns : tie.Need-returns
 unfolding mostRows barriers
 returns c =
-    let bases = c .before .before .before .before .before .before .before .args .bases .now in
-    (ap₂ (λ (n g : ℕ). (getD bases (n % 16) 0 % 512 + g) % 512) (c .before .before .before .wide .ensures .0) (c .wide2 .ensures .0), omega arith)
+    (ap₂ (λ (g n : ℕ). (g * 16 + n % 16) % 8192) (c .wide2 .ensures .0) (c .before .before .wide .ensures .0), omega arith)
 
 pub seat-spec : {M : Type 1} → statement M
 unfolding mostRows barriers
@@ -26,8 +24,7 @@ seat-spec =
     (λ c κs. search needs)
     (λ c. search needs)
     (λ c. search needs)
-    (λ c. search needs)
-    (λ c. search needs)
     (λ c κs. search needs)
+    (λ c. search needs)
     (λ c. search needs)
     returns)

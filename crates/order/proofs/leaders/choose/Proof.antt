@@ -1,17 +1,20 @@
 -- A hint, of which nothing is promised. Assumes nothing.
 use Prim.Native.Nat.{_≤_, _-_}
+use Rattle.tables.specs.Limits.{mostRows, barriers}
+use Rattle.tables.specs.Rows.{rows}
 use borrow.Author.Needs.{needs}
-use Rattle.order.proofs.leaders.add_up.Statement.{statement}
-use Rattle.order.proofs.leaders.add_up.Tie as tie
+use Rattle.order.proofs.leaders.choose.Statement.{statement}
+use Rattle.order.proofs.leaders.choose.Tie as tie
 
 abbrev Inv-loop : tie.InvT-loop
-Inv-loop bases₀ sum₀ barrier₀ bases sum barrier = (barrier ≤ 16) × (sum ≤ 1024)
+Inv-loop commands generations leaders₀ m c₀ leaders c = c ≤ rows commands
 
 abbrev μ-loop : tie.MeasureT-loop
-μ-loop bases₀ sum₀ barrier₀ bases sum barrier = 16 - barrier
+μ-loop commands generations leaders₀ m c₀ leaders c = rows commands - c
 
-pub add-up-spec : {M : Type 1} → statement M
-add-up-spec =
+pub choose-spec : {M : Type 1} → statement M
+unfolding mostRows barriers
+choose-spec =
     tie.close
     (tie.spec
     Inv-loop
@@ -20,7 +23,7 @@ add-up-spec =
     (λ c. search needs)
     (λ c. search needs)
     (λ c. search needs)
-    (λ c. search needs)
+    (λ c κs. search needs)
     (λ c. search needs)
     (λ c. search needs)
     (λ c. search needs)
