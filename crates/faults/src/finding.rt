@@ -2,7 +2,6 @@
 ghost use mathlib.Core.Path.{_≡_};
 ghost use mathlib.Core.List.{[]};
 ghost use Rattle.tables.specs.Rows.{rows};
-ghost use Rattle.tables.specs.Verdicts.{numbered};
 ghost use Rattle.relation.specs.Table.{related};
 ghost use Rattle.sheet.specs.Sheet.{sheetOf};
 ghost use Rattle.order.specs.Order.{numberAt};

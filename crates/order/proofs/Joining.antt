@@ -3,7 +3,7 @@ use mathlib.Core.Path.{_≡_, refl, sym, subst, _∙_}
 use mathlib.Core.Logic.{_⊎_, inl, inr, ⊎-elim, by-cases, _≢_}
 use mathlib.Core.Bool.{Bool, true, false}
 use mathlib.Core.List.{List}
-use Prim.Native.Nat.{ℕ, _+_, _-_, _≤_, _<_}
+use Prim.Native.Nat.{ℕ, _+_, _-_, _<_}
 use native.Mathlib.Decide.{ℕ-discrete}
 use native.Mathlib.Numerals.{add-one}
 use native.Mathlib.Omega.{arith}
@@ -12,7 +12,7 @@ use lib.ListN.{length}
 use borrow.Author.Tests.{eqb-true, le-leb}
 use Rattle.tables.specs.Rows.{rows, kind, name, arrive, sync}
 use Rattle.relation.specs.Table.{Writes}
-use Rattle.relation.specs.Passes.{Joined, Takes, Pass, At}
+use Rattle.relation.specs.Passes.{Joined, Takes, At}
 use Rattle.relation.proofs.Truth.{split, both}
 use Rattle.relation.proofs.Passes.{joined-join, joined-length, takes-join, joined-within, diagonal-within, closed-holds}
 use Rattle.relation.proofs.Rooms.{wrote}

@@ -3,7 +3,6 @@ use mathlib.Core.Path.{_≡_}
 use mathlib.Core.Bool.{Bool, false}
 use mathlib.Core.List.{List}
 use Prim.Native.Nat.{ℕ, _+_, _≤_, _<_}
-use Rattle.tables.specs.Rules.{Keeps}
 use Rattle.tables.specs.Heads.{Headed}
 use Rattle.tables.specs.Rows.{rows}
 use Rattle.relation.specs.Passes.{Joined, Takes, Pass}

@@ -6,7 +6,7 @@ use mathlib.Core.List.{List, [], _∷_}
 use Prim.Native.Nat.{ℕ, suc, _*_, _-_, _^_, _≤_, _<_}
 use native.Mathlib.Decide.{ℕ-discrete, decLt}
 use native.Mathlib.Omega.{arith}
-use lib.ListN.{length, getD}
+use lib.ListN.{length}
 use Rattle.relation.specs.Chains.{Reach, here, goes}
 use Rattle.relation.specs.Bits.{bitAt, sum, RowIs, RowJoined, joined}
 use Rattle.relation.specs.Table.{width, words, Holds, Joins}

@@ -1,12 +1,12 @@
 -- No candidate, the front of a list, or the next after i. Assumes nothing.
-use mathlib.Core.Path.{_≡_, sym, ap, subst, _∙_}
+use mathlib.Core.Path.{sym, ap, subst, _∙_}
 use Prim.Native.Nat.{ℕ, _+_}
 use native.Mathlib.Omega.{arith}
 use lib.ListN.{getD}
 use borrow.Author.Tests.{not-true, not-false}
 use Rattle.tables.specs.Limits.{mostRows}
 use Rattle.tables.specs.Rows.{name}
-use Rattle.faults.specs.declared.faults.Fault.the-variants.{Reuse, Race}
+use Rattle.faults.specs.declared.faults.Fault.the-variants.{Reuse}
 use Rattle.faults.specs.Lists.{meeting, Next}
 use Rattle.faults.proofs.Listing.{candidate, candidate-none, candidate-above}
 use borrow.Author.Needs.{needs}

@@ -1,8 +1,7 @@
 -- The faults with the numbers below j are added, and j is in the list. Assumes nothing.
 use mathlib.Core.Path.{_≡_, sym, ap, _∙_}
 use mathlib.Core.Logic.{⊎-elim}
-use mathlib.Core.List.{List}
-use Prim.Native.Nat.{_-_, _<_, min}
+use Prim.Native.Nat.{_-_, min}
 use native.Mathlib.Omega.{arith}
 use Rattle.tables.specs.Limits.{mostRows}
 use Rattle.tables.specs.Rows.{rows}
