@@ -4,7 +4,7 @@ use mathlib.Core.Logic.{_⊎_, inl, inr, ⊎-elim, by-cases, _≢_}
 use mathlib.Core.Bool.{Bool, true, false}
 use mathlib.Core.List.{List}
 use Prim.Native.Nat.{ℕ, _+_, _-_, _<_}
-use native.Mathlib.Decide.{ℕ-discrete}
+use native.Mathlib.Decide.{ℕ-discrete, decLt}
 use native.Mathlib.Numerals.{add-one}
 use native.Mathlib.Omega.{arith}
 use lib.Dec.{eqb}
@@ -49,11 +49,17 @@ module _ (commands generations leaders : List ℕ) (led : Bool) where
   pulls-all c l e i k from = inl (inr (sym e, refl))
   pulls-all c l e i k (each f lk) = inr (record { alone = f; from = refl; to = lk })
 
-  pub sweeps-more : (c i k : ℕ) → Sweeps commands generations leaders led (c - 1) i k
-      → Sweeps commands generations leaders led c i k ⊎ Pulls commands generations leaders led (c - 1) i k
-  sweeps-more c i k S =
+  pub sweeps-more : (c end i k : ℕ) → Sweeps commands generations leaders led (c - 1) end i k
+      → Sweeps commands generations leaders led c end i k ⊎ Pulls commands generations leaders led (c - 1) i k
+  sweeps-more c end i k S =
       by-cases (ℕ-discrete (S .one) (c - 1)) (λ (e : S .one ≡ c - 1). inr (rw e at (S .pulls)))
       (λ (d : S .one ≢ c - 1). inl (record { one = S .one; low = omega (arith, S .low); high = S .high; pulls = S .pulls }))
+
+  pub sweeps-on : (n end i k : ℕ) → Sweeps commands generations leaders led 0 end i k
+      → Sweeps commands generations leaders led 0 n i k ⊎ Sweeps commands generations leaders led n end i k
+  sweeps-on n end i k S =
+      by-cases (decLt (S .one) n) (λ (l : S .one < n). inl (record { one = S .one; low = S .low; high = l; pulls = S .pulls }))
+      (λ (l : ¬ (S .one < n)). inr (record { one = S .one; low = omega arith; high = S .high; pulls = S .pulls }))
 
 -- ---- leaders
 
@@ -72,7 +78,7 @@ sync-registers commands c e = let k = eqb-true (kind commands c) sync e in le-le
 -- ---- a sweep that changed nothing
 
 module _ (commands lengths generations leaders r : List ℕ) (led : Bool) (L : led ≡ true → Led commands generations leaders)
-    (A : (i k : ℕ) → Sweeps commands generations leaders led 0 i k → Edges commands lengths generations i k → Takes r (rows commands) i k) where
+    (A : (i k : ℕ) → Sweeps commands generations leaders led 0 (rows commands) i k → Edges commands lengths generations i k → Takes r (rows commands) i k) where
   abbrev lead : ℕ → ℕ
   lead = leader commands generations leaders
 
@@ -107,7 +113,7 @@ module _ (commands lengths generations leaders r : List ℕ) (led : Bool) (L : l
 
 pub settled : {commands lengths generations leaders b r s : List ℕ} {led said : Bool} → (led ≡ true → Led commands generations leaders)
     → Joined (Edges commands lengths generations) (rows commands) b r
-    → Along commands lengths generations (Sweeps commands generations leaders led 0) r s said → said ≡ false → Settled commands lengths generations b s
+    → Along commands lengths generations (Sweeps commands generations leaders led 0 (rows commands)) r s said → said ≡ false → Settled commands lengths generations b s
 settled {commands} {lengths} {generations} {leaders} {b} {r} {s} {led} L J P f =
     record {
       joins = joined-join J (P .joins);

@@ -37,11 +37,11 @@ pub data Pulls (commands generations leaders : List ℕ) (led : Bool) (c : ℕ) 
   from : Pulls commands generations leaders led c (leader commands generations leaders c) c
   each : {k : ℕ} → led ≡ false → k < rows commands → Pulls commands generations leaders led c c k
 
--- what is tried in a sweep from the last command down to c
-pub record Sweeps (commands generations leaders : List ℕ) (led : Bool) (c i k : ℕ) : Type 0 where
+-- what is tried in a sweep of the commands from `first` to before `end`
+pub record Sweeps (commands generations leaders : List ℕ) (led : Bool) (first end i k : ℕ) : Type 0 where
   pub one : ℕ
-  pub low : c ≤ one
-  pub high : one < rows commands
+  pub low : first ≤ one
+  pub high : one < end
   pub pulls : Pulls commands generations leaders led one i k
 
 -- rows were joined along edges until each edge was taken

@@ -1,7 +1,7 @@
 // Joins along edges until every edge is taken. Leaders cost or save time; the sweeps see to it that no edge is missed.
 ghost use mathlib.Core.Path.{_≡_};
 ghost use mathlib.Core.Bool.{true};
-ghost use Prim.Native.Nat.{_<_};
+ghost use Prim.Native.Nat.{_≤_, _<_, min};
 ghost use Rattle.tables.specs.Rows.{rows};
 ghost use Rattle.relation.specs.Passes.{At};
 ghost use Rattle.order.specs.Order.{Roomy};
@@ -12,9 +12,16 @@ use crate::leaders::SEATS;
 use crate::leaders::all_led;
 use crate::leaders::choose;
 use crate::leaders::leader;
+use crate::leaders::wide;
 use relation::join;
 use tables::Table;
 use tables::put_heads;
+
+fn least(a: usize, b: usize) -> usize
+    ensures { λ r. ⌜ r ≡ min a b ⌝ }
+{
+    if a < b { a } else { b }
+}
 
 // Row j is joined into row i, if both are there and there is an edge from i to j. Has anything changed?
 fn join_along(
@@ -91,7 +98,7 @@ fn pull(
     next | to | from | each
 }
 
-// The joins of every command, from the last to the first. Has anything changed?
+// The joins of the commands from `first` to before `end`, the last of them first. Has anything changed?
 fn sweep(
     commands: &[u32],
     lengths: &[u32],
@@ -100,13 +107,15 @@ fn sweep(
     leaders: &[u16; SEATS],
     led: bool,
     relation: &mut [u32],
+    first: usize,
+    end: usize,
 ) -> bool
-    requires { ⌜ Ready (now commands) (now lengths) (now generations) (now heads) (now relation) ⌝ }
-    ensures { λ r. ⌜ Along (now (commands .entry)) (now (lengths .entry)) (now (generations .entry)) (Sweeps (now (commands .entry)) (now (generations .entry)) (now (leaders .entry)) led 0) (now (relation .entry)) (now (relation .exit)) r ⌝ }
+    requires { ⌜ (first ≤ end) × (end ≤ rows (now commands)) × Ready (now commands) (now lengths) (now generations) (now heads) (now relation) ⌝ }
+    ensures { λ r. ⌜ Along (now (commands .entry)) (now (lengths .entry)) (now (generations .entry)) (Sweeps (now (commands .entry)) (now (generations .entry)) (now (leaders .entry)) led first end) (now (relation .entry)) (now (relation .exit)) r ⌝ }
 {
     let mut changed = false;
-    let mut c = commands.len() / 3;
-    while 0 < c {
+    let mut c = end;
+    while first < c {
         c -= 1;
         let pulled = pull(
             commands,
@@ -123,7 +132,55 @@ fn sweep(
     changed
 }
 
-// Sweeps until nothing changes.
+// The joins of all commands, thread after thread. What is left when the lengths end is swept too, so that nothing need be known of them.
+fn sweep_threads(
+    commands: &[u32],
+    lengths: &[u32],
+    generations: &[u32],
+    heads: &[usize; Table::ROWS],
+    leaders: &[u16; SEATS],
+    led: bool,
+    relation: &mut [u32],
+) -> bool
+    requires { ⌜ Ready (now commands) (now lengths) (now generations) (now heads) (now relation) ⌝ }
+    ensures { λ r. ⌜ Along (now (commands .entry)) (now (lengths .entry)) (now (generations .entry)) (Sweeps (now (commands .entry)) (now (generations .entry)) (now (leaders .entry)) led 0 (rows (now (commands .entry)))) (now (relation .entry)) (now (relation .exit)) r ⌝ }
+{
+    let m = commands.len() / 3;
+    let mut changed = false;
+    let mut from = 0;
+    let mut t = 0;
+    while t < lengths.len() {
+        let to = least(wide(lengths[t]), m - from) + from;
+        let swept = sweep(
+            commands,
+            lengths,
+            generations,
+            heads,
+            leaders,
+            led,
+            relation,
+            from,
+            to,
+        );
+        changed = changed | swept;
+        from = to;
+        t += 1;
+    }
+    let rest = sweep(
+        commands,
+        lengths,
+        generations,
+        heads,
+        leaders,
+        led,
+        relation,
+        from,
+        m,
+    );
+    changed | rest
+}
+
+// Sweeps until nothing changes: by turns over the commands from the last on, and thread after thread. The first is quick where chains lead to higher threads, the second where they lead to lower ones.
 fn settle(
     commands: &[u32],
     lengths: &[u32],
@@ -136,8 +193,23 @@ fn settle(
     requires { ⌜ Ready (now commands) (now lengths) (now generations) (now heads) (now relation) × (led ≡ true → Led (now commands) (now generations) (now leaders)) ⌝ }
     ensures { λ r. ⌜ Settled (now (commands .entry)) (now (lengths .entry)) (now (generations .entry)) (now (relation .entry)) (now (relation .exit)) ⌝ }
 {
+    let m = commands.len() / 3;
     loop {
-        let changed = sweep(
+        let down = sweep(
+            commands,
+            lengths,
+            generations,
+            heads,
+            leaders,
+            led,
+            relation,
+            0,
+            m,
+        );
+        if !down {
+            return;
+        }
+        let up = sweep_threads(
             commands,
             lengths,
             generations,
@@ -146,7 +218,7 @@ fn settle(
             led,
             relation,
         );
-        if !changed {
+        if !up {
             return;
         }
     }

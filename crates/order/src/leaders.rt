@@ -14,7 +14,7 @@ use tables::Table;
 pub(crate) const SEATS: usize = Table::ROWS * Table::BARRIERS;
 
 // A number of 32 bits among those of an index.
-fn wide(x: u32) -> usize
+pub(crate) fn wide(x: u32) -> usize
     ensures { λ r. ⌜ (r ≡ x) × (r < 2 ^ 32) ⌝ }
 {
     x as usize
