@@ -20,17 +20,17 @@ listed Reuse commands c = registers commands c
 listed Race commands c = ltb (kind commands c) arrive
 
 -- the list of a barrier and generation. There are as many lists as rows, and others may share it: that costs time alone.
-abbrev pub meeting : ℕ → ℕ → ℕ
-meeting barrier generation = (barrier * (mostRows / barriers) + generation) % mostRows
+abbrev pub barrierList : ℕ → ℕ → ℕ
+barrierList barrier generation = (barrier * (mostRows / barriers) + generation) % mostRows
 
 -- the list of command c
 abbrev pub key : Fault → List ℕ → List ℕ → ℕ → ℕ
-key Reuse commands generations c = meeting (name commands c) (numberAt generations c)
+key Reuse commands generations c = barrierList (name commands c) (numberAt generations c)
 key Race commands generations c = name commands c % mostRows
 
 -- the list in which outer number i finds its faults: c₂ that of the generation before its own, and x its own
 abbrev pub wanted : Fault → List ℕ → List ℕ → ℕ → ℕ
-wanted Reuse commands generations i = meeting (name commands i) (numberAt generations i + (mostRows - 1))
+wanted Reuse commands generations i = barrierList (name commands i) (numberAt generations i + (mostRows - 1))
 wanted Race commands generations i = key Race commands generations i
 
 -- n is the first number from a on in list k; where there is none, it is past all rows

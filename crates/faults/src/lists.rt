@@ -3,8 +3,8 @@ ghost use mathlib.Core.Path.{_≡_};
 ghost use Prim.Native.Nat.{_<_, _^_};
 ghost use Rattle.tables.specs.Limits.{mostRows};
 ghost use Rattle.tables.specs.Rows.{rows};
-ghost use Rattle.order.specs.Order.{Command};
-ghost use Rattle.faults.specs.Lists.{listed, meeting, key, Lists, Candidate, Unlisted};
+ghost use Rattle.order.specs.Order.{OneCommand};
+ghost use Rattle.faults.specs.Lists.{listed, barrierList, key, Lists, Candidate, Unlisted};
 use crate::faults::Fault;
 use tables::Table;
 
@@ -28,21 +28,21 @@ fn listed(fault: Fault, commands: &[u32], c: usize) -> bool
 }
 
 // The list of a barrier and generation.
-fn meeting(barrier: u32, generation: usize) -> usize
+fn barrier_list(barrier: u32, generation: usize) -> usize
     requires { ⌜ generation < 2 ^ 33 ⌝ }
-    ensures { λ r. ⌜ (r ≡ meeting barrier generation) × (r < mostRows) ⌝ }
+    ensures { λ r. ⌜ (r ≡ barrierList barrier generation) × (r < mostRows) ⌝ }
 {
     (wide(barrier) * (Table::ROWS / Table::BARRIERS) + generation) % Table::ROWS
 }
 
 // The list of command c.
 fn key(fault: Fault, commands: &[u32], generations: &[u32], c: usize) -> usize
-    requires { ⌜ Command (now commands) (now generations) c ⌝ }
+    requires { ⌜ OneCommand (now commands) (now generations) c ⌝ }
     ensures { λ r. ⌜ (r ≡ key fault (now (commands .entry)) (now (generations .entry)) c) × (r < mostRows) ⌝ }
 {
     let name = commands[c * 3 + 1];
     match fault {
-        Fault::Reuse => meeting(name, wide(generations[c])),
+        Fault::Reuse => barrier_list(name, wide(generations[c])),
         Fault::Race => wide(name) % Table::ROWS,
     }
 }
@@ -78,7 +78,7 @@ pub(crate) fn first_candidate(
     nexts: &[usize; Table::ROWS],
     i: usize,
 ) -> usize
-    requires { ⌜ Command (now commands) (now generations) i × Lists fault (now commands) (now generations) (now fronts) (now nexts) 0 ⌝ }
+    requires { ⌜ OneCommand (now commands) (now generations) i × Lists fault (now commands) (now generations) (now fronts) (now nexts) 0 ⌝ }
     ensures { λ r. ⌜ Candidate fault (now (commands .entry)) (now (generations .entry)) i 0 r ⌝ }
 {
     if !listed(fault, commands, i) {
@@ -87,7 +87,7 @@ pub(crate) fn first_candidate(
     match fault {
         Fault::Reuse => {
             let before = wide(generations[i]) + (Table::ROWS - 1);
-            fronts[meeting(commands[i * 3 + 1], before)]
+            fronts[barrier_list(commands[i * 3 + 1], before)]
         }
         Fault::Race => nexts[i],
     }

@@ -20,7 +20,7 @@ use Rattle.schedules.specs.Order.{along, meets}
 use Rattle.replay.specs.Step.{registers, syncs}
 use Rattle.order.specs.Order.{numberAt, meets as order-meets, Reached, Roomy}
 use Rattle.order.specs.Leaders.{leader, LedBelow, Led}
-use Rattle.order.specs.Closing.{Edges, Along, Ready, FromTo, Pulls, next, to, from, each, Sweeps, Settled}
+use Rattle.order.specs.Closing.{Edges, Along, Prepared, FromTo, Pulls, next, to, from, each, Sweeps, AllTaken}
 
 -- ---- there is room after joins
 
@@ -31,8 +31,8 @@ pub roomy-diagonal : {commands lengths generations b r : List ℕ} {said : Bool}
     → Writes (λ i j. i ≡ j) b r (rows commands) said → Roomy commands lengths generations r
 roomy-diagonal R W = roomy-still R (wrote (R .relation-fits) W .len)
 
-pub ready-still : {commands lengths generations heads b r : List ℕ} → Ready commands lengths generations heads b
-    → Joined (Edges commands lengths generations) (rows commands) b r → Ready commands lengths generations heads r
+pub ready-still : {commands lengths generations heads b r : List ℕ} → Prepared commands lengths generations heads b
+    → Joined (Edges commands lengths generations) (rows commands) b r → Prepared commands lengths generations heads r
 ready-still R J = record { roomy = roomy-still (R .roomy) (joined-length J); headed = R .headed }
 
 -- ---- what each part tries
@@ -113,7 +113,7 @@ module _ (commands lengths generations leaders r : List ℕ) (led : Bool) (L : l
 
 pub settled : {commands lengths generations leaders b r s : List ℕ} {led said : Bool} → (led ≡ true → Led commands generations leaders)
     → Joined (Edges commands lengths generations) (rows commands) b r
-    → Along commands lengths generations (Sweeps commands generations leaders led 0 (rows commands)) r s said → said ≡ false → Settled commands lengths generations b s
+    → Along commands lengths generations (Sweeps commands generations leaders led 0 (rows commands)) r s said → said ≡ false → AllTaken commands lengths generations b s
 settled {commands} {lengths} {generations} {leaders} {b} {r} {s} {led} L J P f =
     record {
       joins = joined-join J (P .joins);
@@ -123,6 +123,6 @@ settled {commands} {lengths} {generations} {leaders} {b} {r} {s} {led} L J P f =
 -- ---- all together
 
 pub ordered : {commands lengths generations b d s : List ℕ} {said : Bool} → Roomy commands lengths generations b
-    → Writes (λ i j. i ≡ j) b d (rows commands) said → Settled commands lengths generations d s
+    → Writes (λ i j. i ≡ j) b d (rows commands) said → AllTaken commands lengths generations d s
     → Reached commands lengths (numberAt generations) b s
 ordered R D S = closed-holds (S .closed) (joined-within (diagonal-within (wrote (R .relation-fits) D)) (S .joins))

@@ -20,7 +20,7 @@ abbrev pub Along : List ℕ → List ℕ → List ℕ → (ℕ → ℕ → Type 
 Along commands lengths generations = Pass (Edges commands lengths generations) (rows commands)
 
 -- there is room, and the heads of the threads are known
-pub record Ready (commands lengths generations heads relation : List ℕ) : Type 0 where
+pub record Prepared (commands lengths generations heads relation : List ℕ) : Type 0 where
   pub roomy : Roomy commands lengths generations relation
   pub headed : Headed lengths heads
 
@@ -45,6 +45,6 @@ pub record Sweeps (commands generations leaders : List ℕ) (led : Bool) (first 
   pub pulls : Pulls commands generations leaders led one i k
 
 -- rows were joined along edges until each edge was taken
-pub record Settled (commands lengths generations before after : List ℕ) : Type 0 where
+pub record AllTaken (commands lengths generations before after : List ℕ) : Type 0 where
   pub joins : Joined (Edges commands lengths generations) (rows commands) before after
   pub closed : (i k : ℕ) → Edges commands lengths generations i k → Takes after (rows commands) i k

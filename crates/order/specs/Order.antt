@@ -26,7 +26,7 @@ Reached commands lengths g before after = Holds before after (rows commands) (Re
 -- ---- what the parts ask for
 
 -- row c is there, and its generation
-pub record Command (commands generations : List ℕ) (c : ℕ) : Type 0 where
+pub record OneCommand (commands generations : List ℕ) (c : ℕ) : Type 0 where
   pub there : c < rows commands
   pub whole : rows commands ≤ length generations
 

@@ -6,7 +6,7 @@ ghost use Rattle.tables.specs.Rows.{rows};
 ghost use Rattle.relation.specs.Passes.{At};
 ghost use Rattle.order.specs.Order.{Roomy};
 ghost use Rattle.order.specs.Leaders.{Led};
-ghost use Rattle.order.specs.Closing.{Along, Ready, FromTo, Pulls, Sweeps, Settled};
+ghost use Rattle.order.specs.Closing.{Along, Prepared, FromTo, Pulls, Sweeps, AllTaken};
 use crate::edges::edge;
 use crate::leaders::SEATS;
 use crate::leaders::all_led;
@@ -33,7 +33,7 @@ fn join_along(
     i: usize,
     j: usize,
 ) -> bool
-    requires { ⌜ Ready (now commands) (now lengths) (now generations) (now heads) (now relation) ⌝ }
+    requires { ⌜ Prepared (now commands) (now lengths) (now generations) (now heads) (now relation) ⌝ }
     ensures { λ r. ⌜ Along (now (commands .entry)) (now (lengths .entry)) (now (generations .entry)) (At i j) (now (relation .entry)) (now (relation .exit)) r ⌝ }
 {
     let m = commands.len() / 3;
@@ -59,7 +59,7 @@ fn join_each(
     relation: &mut [u32],
     c: usize,
 ) -> bool
-    requires { ⌜ Ready (now commands) (now lengths) (now generations) (now heads) (now relation) ⌝ }
+    requires { ⌜ Prepared (now commands) (now lengths) (now generations) (now heads) (now relation) ⌝ }
     ensures { λ r. ⌜ Along (now (commands .entry)) (now (lengths .entry)) (now (generations .entry)) (FromTo led c (rows (now (commands .entry)))) (now (relation .entry)) (now (relation .exit)) r ⌝ }
 {
     if led {
@@ -87,7 +87,7 @@ fn pull(
     relation: &mut [u32],
     c: usize,
 ) -> bool
-    requires { ⌜ (c < rows (now commands)) × Ready (now commands) (now lengths) (now generations) (now heads) (now relation) ⌝ }
+    requires { ⌜ (c < rows (now commands)) × Prepared (now commands) (now lengths) (now generations) (now heads) (now relation) ⌝ }
     ensures { λ r. ⌜ Along (now (commands .entry)) (now (lengths .entry)) (now (generations .entry)) (Pulls (now (commands .entry)) (now (generations .entry)) (now (leaders .entry)) led c) (now (relation .entry)) (now (relation .exit)) r ⌝ }
 {
     let l = leader(commands, generations, leaders, c);
@@ -110,7 +110,7 @@ fn sweep(
     first: usize,
     end: usize,
 ) -> bool
-    requires { ⌜ (first ≤ end) × (end ≤ rows (now commands)) × Ready (now commands) (now lengths) (now generations) (now heads) (now relation) ⌝ }
+    requires { ⌜ (first ≤ end) × (end ≤ rows (now commands)) × Prepared (now commands) (now lengths) (now generations) (now heads) (now relation) ⌝ }
     ensures { λ r. ⌜ Along (now (commands .entry)) (now (lengths .entry)) (now (generations .entry)) (Sweeps (now (commands .entry)) (now (generations .entry)) (now (leaders .entry)) led first end) (now (relation .entry)) (now (relation .exit)) r ⌝ }
 {
     let mut changed = false;
@@ -142,7 +142,7 @@ fn sweep_threads(
     led: bool,
     relation: &mut [u32],
 ) -> bool
-    requires { ⌜ Ready (now commands) (now lengths) (now generations) (now heads) (now relation) ⌝ }
+    requires { ⌜ Prepared (now commands) (now lengths) (now generations) (now heads) (now relation) ⌝ }
     ensures { λ r. ⌜ Along (now (commands .entry)) (now (lengths .entry)) (now (generations .entry)) (Sweeps (now (commands .entry)) (now (generations .entry)) (now (leaders .entry)) led 0 (rows (now (commands .entry)))) (now (relation .entry)) (now (relation .exit)) r ⌝ }
 {
     let m = commands.len() / 3;
@@ -190,8 +190,8 @@ fn settle(
     led: bool,
     relation: &mut [u32],
 )
-    requires { ⌜ Ready (now commands) (now lengths) (now generations) (now heads) (now relation) × (led ≡ true → Led (now commands) (now generations) (now leaders)) ⌝ }
-    ensures { λ r. ⌜ Settled (now (commands .entry)) (now (lengths .entry)) (now (generations .entry)) (now (relation .entry)) (now (relation .exit)) ⌝ }
+    requires { ⌜ Prepared (now commands) (now lengths) (now generations) (now heads) (now relation) × (led ≡ true → Led (now commands) (now generations) (now leaders)) ⌝ }
+    ensures { λ r. ⌜ AllTaken (now (commands .entry)) (now (lengths .entry)) (now (generations .entry)) (now (relation .entry)) (now (relation .exit)) ⌝ }
 {
     let m = commands.len() / 3;
     loop {
@@ -232,7 +232,7 @@ pub(crate) fn close_along(
     relation: &mut [u32],
 )
     requires { ⌜ Roomy (now commands) (now lengths) (now generations) (now relation) ⌝ }
-    ensures { λ r. ⌜ Settled (now (commands .entry)) (now (lengths .entry)) (now (generations .entry)) (now (relation .entry)) (now (relation .exit)) ⌝ }
+    ensures { λ r. ⌜ AllTaken (now (commands .entry)) (now (lengths .entry)) (now (generations .entry)) (now (relation .entry)) (now (relation .exit)) ⌝ }
 {
     let mut heads = [0; Table::ROWS];
     put_heads(lengths, &mut heads);

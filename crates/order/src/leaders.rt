@@ -5,7 +5,7 @@ ghost use Prim.Native.Nat.{_≤_, _<_, _^_};
 ghost use lib.ListN.{length};
 ghost use Rattle.tables.specs.Limits.{mostRows};
 ghost use Rattle.tables.specs.Rows.{rows};
-ghost use Rattle.order.specs.Order.{Command};
+ghost use Rattle.order.specs.Order.{OneCommand};
 ghost use Rattle.order.specs.Leaders.{seats, seat, leader, Led};
 use crate::edges::meets;
 use tables::Table;
@@ -29,7 +29,7 @@ fn wide_seat(x: u16) -> usize
 
 // The seat of c's barrier and generation.
 fn seat(commands: &[u32], generations: &[u32], c: usize) -> usize
-    requires { ⌜ Command (now commands) (now generations) c ⌝ }
+    requires { ⌜ OneCommand (now commands) (now generations) c ⌝ }
     ensures { λ r. ⌜ (r ≡ seat (now (commands .entry)) (now (generations .entry)) c) × (r < seats) ⌝ }
 {
     let barrier = wide(commands[c * 3 + 1]) % Table::BARRIERS;
@@ -43,7 +43,7 @@ pub(crate) fn leader(
     leaders: &[u16; SEATS],
     c: usize,
 ) -> usize
-    requires { ⌜ Command (now commands) (now generations) c ⌝ }
+    requires { ⌜ OneCommand (now commands) (now generations) c ⌝ }
     ensures { λ r. ⌜ r ≡ leader (now (commands .entry)) (now (generations .entry)) (now (leaders .entry)) c ⌝ }
 {
     let at = seat(commands, generations, c);

@@ -10,7 +10,7 @@ use lib.ListN.{length}
 use Rattle.relation.specs.Chains.{Reach, here, goes}
 use Rattle.relation.specs.Bits.{bitAt, sum, RowIs, RowJoined, joined}
 use Rattle.relation.specs.Table.{width, words, Holds, Joins}
-use Rattle.relation.specs.Passes.{Joined, none, more, Takes, Pass, At, Within}
+use Rattle.relation.specs.Passes.{Joined, none, more, Takes, Pass, At, SoundTable}
 use Rattle.relation.proofs.Truth.{split, isnt, clashing, either, neither, left, right}
 use Rattle.relation.proofs.Chains.{reach-join}
 use Rattle.relation.proofs.Rows.{other-row}
@@ -84,8 +84,8 @@ grows {a = a} h t P = let l = P .grown t in let k = sum-small a h in rw (sym (jo
 -- ---- sound
 
 module _ {m : ℕ} {E : ℕ → ℕ → Type 0} where
-  one-within : {b r s : List ℕ} {i k : ℕ} → Within b r m (Reach E) → i < m → k < m → E i k → RowIs r s (width m) i (joined r (width m) i k)
-      → Within b s m (Reach E)
+  one-within : {b r s : List ℕ} {i k : ℕ} → SoundTable b r m (Reach E) → i < m → k < m → E i k → RowIs r s (width m) i (joined r (width m) i k)
+      → SoundTable b s m (Reach E)
   one-within {b} {r} {s} {i} {k} W li lk e N =
       record {
         len = N .len ∙ W .len;
@@ -106,12 +106,12 @@ module _ {m : ℕ} {E : ℕ → ℕ → Type 0} where
         kept = λ p h. N .outside p (inr (omega (arith, row-in (words m) (width m) m i (omega arith) li))) ∙ W .kept p h;
       }
 
-  pub joined-within : {b r s : List ℕ} → Within b r m (Reach E) → Joined E m r s → Within b s m (Reach E)
+  pub joined-within : {b r s : List ℕ} → SoundTable b r m (Reach E) → Joined E m r s → SoundTable b s m (Reach E)
   joined-within W none = W
   joined-within W (more q li lk e N) = one-within (joined-within W q) li lk e N
 
   -- the table that relates each number to itself
-  pub diagonal-within : {b r : List ℕ} → Holds b r m (λ i j. i ≡ j) → Within b r m (Reach E)
+  pub diagonal-within : {b r : List ℕ} → Holds b r m (λ i j. i ≡ j) → SoundTable b r m (Reach E)
   diagonal-within {b} {r} H =
       record {
         len = H .len;
@@ -130,7 +130,7 @@ module _ {m : ℕ} {E : ℕ → ℕ → Type 0} where
     reach-takes (goes {k} {j} p e) = takes-join (reach-takes p) (closed k j e)
 
     -- sound and closed: exactly what can be reached
-    pub closed-holds : {b : List ℕ} → Within b r m (Reach E) → Holds b r m (Reach E)
+    pub closed-holds : {b : List ℕ} → SoundTable b r m (Reach E) → Holds b r m (Reach E)
     closed-holds {b} W =
         record {
           len = W .len;

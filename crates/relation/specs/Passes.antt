@@ -29,7 +29,7 @@ abbrev pub At : ℕ → ℕ → ℕ → ℕ → Type 0
 At i k x y = (x ≡ i) × (y ≡ k)
 
 -- sound: each number is related to itself, each bit that is set is a pair of R, and the words after the table are as before
-pub record Within (before after : List ℕ) (m : ℕ) (R : ℕ → ℕ → Type 0) : Type 0 where
+pub record SoundTable (before after : List ℕ) (m : ℕ) (R : ℕ → ℕ → Type 0) : Type 0 where
   pub len : length after ≡ length before
   pub diagonal : (i : ℕ) → i < m → bitAt after (width m) i i ≡ true
   pub sound : (i j : ℕ) → i < m → j < 32 * width m → bitAt after (width m) i j ≡ true → (j < m) × R i j

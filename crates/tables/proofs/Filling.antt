@@ -9,13 +9,13 @@ use lib.Dec.{eqb}
 use lib.ListN.{length, getD, set, length-set}
 use lib.Seq.{getD-set-same, getD-set-other}
 use Rattle.tables.specs.Rows.{total, firstRow, threadOf, isFirst}
-use Rattle.tables.specs.Heads.{Heads, Headed, Filled, Fills}
+use Rattle.tables.specs.Heads.{Heads, Headed, FilledTo, Fills}
 use Rattle.tables.proofs.Rows.{first-none, first-next, first-all, only, same-head}
 
 -- ---- a room that is filled by one store after another
 
-filled-more : {after : List ℕ} {n v : ℕ} {f : ℕ → ℕ} {before : List ℕ} → n < length before → f n ≡ v → Filled f n before after
-    → Filled f (n + 1) before (set after n v)
+filled-more : {after : List ℕ} {n v : ℕ} {f : ℕ → ℕ} {before : List ℕ} → n < length before → f n ≡ v → FilledTo f n before after
+    → FilledTo f (n + 1) before (set after n v)
 filled-more {after} {n} {v} l e F = record {
   len = length-set after n v ∙ F .len;
   done = λ c h.
@@ -42,7 +42,7 @@ headOf lengths c = firstRow lengths (threadOf lengths c)
 -- the rows before `head`, where thread t begins or the room ends, have their heads
 pub record Begun (lengths : List ℕ) (t head : ℕ) (before after : List ℕ) : Type 0 where
   pub at : head ≡ min (firstRow lengths t) (length before)
-  pub heads : Filled (headOf lengths) head before after
+  pub heads : FilledTo (headOf lengths) head before after
 
 pub begun-none : (lengths room : List ℕ) → Begun lengths 0 0 room room
 begun-none lengths room = record {

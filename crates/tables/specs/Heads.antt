@@ -16,7 +16,7 @@ pub record Headed (lengths heads : List ℕ) : Type 0 where
   pub head : (c : ℕ) → c < total lengths → getD heads c 0 ≡ firstRow lengths (threadOf lengths c)
 
 -- the places below n hold what f says, and the others are as before
-pub record Filled (f : ℕ → ℕ) (n : ℕ) (before after : List ℕ) : Type 0 where
+pub record FilledTo (f : ℕ → ℕ) (n : ℕ) (before after : List ℕ) : Type 0 where
   pub len : length after ≡ length before
   pub done : (c : ℕ) → c < n → getD after c 0 ≡ f c
   pub kept : (c : ℕ) → n ≤ c → getD after c 0 ≡ getD before c 0
@@ -24,4 +24,4 @@ pub record Filled (f : ℕ → ℕ) (n : ℕ) (before after : List ℕ) : Type 0
 -- a room that was filled to `from` is filled to `to`, where f says `head` between them
 abbrev pub Fills : (from to head : ℕ) (before after : List ℕ) → Type 0
 Fills from to head before after =
-    (f : ℕ → ℕ) (old : List ℕ) → ((c : ℕ) → from ≤ c → c < to → f c ≡ head) → Filled f from old before → Filled f to old after
+    (f : ℕ → ℕ) (old : List ℕ) → ((c : ℕ) → from ≤ c → c < to → f c ≡ head) → FilledTo f from old before → FilledTo f to old after

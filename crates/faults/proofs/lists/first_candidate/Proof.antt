@@ -7,7 +7,7 @@ use borrow.Author.Tests.{not-true, not-false}
 use Rattle.tables.specs.Limits.{mostRows}
 use Rattle.tables.specs.Rows.{name}
 use Rattle.faults.specs.declared.faults.Fault.the-variants.{Reuse}
-use Rattle.faults.specs.Lists.{meeting, Next}
+use Rattle.faults.specs.Lists.{barrierList, Next}
 use Rattle.faults.proofs.Listing.{candidate, candidate-none, candidate-above}
 use borrow.Author.Needs.{needs}
 use Rattle.faults.proofs.lists.first_candidate.Statement.{statement}
@@ -23,9 +23,9 @@ returns-2 c =
     let s = c .before .before .before .before .before .before .before .before .before .before .before in
     let a = s .args in
     let e = c .before .before .before .before .before .enum-told .given .1 in
-    let k = c .before .meeting in
-    let q = k .ensures .0 ∙ ap (λ (g : ℕ). meeting (name (a .commands .now) (a .i)) (g + 511)) (c .before .before .before .wide .ensures .0) in
-    rw e (candidate (subst (λ (k : ℕ). Next Reuse (a .commands .now) (a .generations .now) k 0 (getD (a .fronts .now) (c .before .meeting .result) 0)) q (rw e at (s .pre .1 .front (k .result) (k .ensures .1)))))
+    let k = c .before .barrier-list in
+    let q = k .ensures .0 ∙ ap (λ (g : ℕ). barrierList (name (a .commands .now) (a .i)) (g + 511)) (c .before .before .before .wide .ensures .0) in
+    rw e (candidate (subst (λ (k : ℕ). Next Reuse (a .commands .now) (a .generations .now) k 0 (getD (a .fronts .now) (c .before .barrier-list .result) 0)) q (rw e at (s .pre .1 .front (k .result) (k .ensures .1)))))
 
 returns-3 : tie.Need-returns-3
 unfolding mostRows

@@ -4,7 +4,7 @@ use Prim.Native.Nat.{ℕ, _%_}
 use native.Mathlib.Omega.{arith}
 use Rattle.tables.specs.Limits.{mostRows}
 use Rattle.tables.specs.Rows.{name}
-use Rattle.faults.specs.Lists.{meeting}
+use Rattle.faults.specs.Lists.{barrierList}
 use borrow.Author.Needs.{needs}
 use Rattle.faults.proofs.lists.key.Statement.{statement}
 use Rattle.faults.proofs.lists.key.Tie as tie
@@ -13,7 +13,7 @@ returns : tie.Need-returns
 returns c =
     let a = c .before .before .before .before .before .before .before .before .args in
     rw (c .before .before .before .enum-told .given .1)
-    (c .meeting .ensures .0 ∙ ap (meeting (name (a .commands .now) (a .c))) (c .before .wide .ensures .0), c .meeting .ensures .1)
+    (c .barrier-list .ensures .0 ∙ ap (barrierList (name (a .commands .now) (a .c))) (c .before .wide .ensures .0), c .barrier-list .ensures .1)
 
 returns-2 : tie.Need-returns-2
 unfolding mostRows
