@@ -23,7 +23,7 @@ use Rattle.replay.specs.Ending.{ended, judged}
 use Rattle.replay.specs.Writer.{lowestFirst, schedule}
 use Rattle.sheet.specs.Sheet.{mostKept, firsts, sheetOf}
 use Rattle.faults.specs.Faults.{succeeds, reuse, conflict, race, alongRow, allRows, faults}
-use Rattle.order.specs.Refusals.{refused}
+use Rattle.rooms.specs.Refusals.{refused}
 use Rattle.review.specs.Judge.{verdictOf}
 use Rattle.desk.specs.Figures.{figuresTo, figures}
 use Rattle.desk.specs.Conclusion.{ofTables, ofText}

@@ -13,8 +13,8 @@ use Rattle.relation.specs.Table.{related}
 use Rattle.replay.proofs.Refusals.{or-first, or-second}
 use Rattle.sheet.specs.Sheet.{sheetOf}
 use Rattle.faults.specs.declared.finding.Finding.{Finding}
-use Rattle.order.specs.Refusals.{refused}
-use Rattle.order.specs.Order.{numberAt}
+use Rattle.rooms.specs.Refusals.{refused}
+use Rattle.rooms.specs.Rooms.{numberAt}
 use Rattle.faults.specs.Findings.{Looked, Finds}
 
 module _ (commands lengths generations relation : List ℕ) where

@@ -16,7 +16,7 @@ use Rattle.tables.specs.Rules.{Keeps}
 use Rattle.tables.specs.Rows.{rows, kind, name, arrive}
 use Rattle.relation.proofs.Truth.{both, isnt, clashing}
 use Rattle.replay.specs.Step.{registers}
-use Rattle.order.specs.Order.{numberAt}
+use Rattle.rooms.specs.Rooms.{numberAt}
 use Rattle.sheet.specs.declared.Pair.{Pair}
 use Rattle.sheet.specs.declared.Sheet.{Sheet}
 use Rattle.sheet.specs.Sheet.{addAll}

@@ -14,8 +14,8 @@ use Rattle.sheet.specs.declared.Pair.{Pair}
 use Rattle.sheet.specs.Sheet.{sheetOf}
 use Rattle.faults.specs.declared.faults.Fault.the-variants.{Reuse, Race}
 use Rattle.faults.specs.declared.finding.Finding.{Finding}
-use Rattle.order.specs.Refusals.{refused}
-use Rattle.order.specs.Order.{numberAt}
+use Rattle.rooms.specs.Refusals.{refused}
+use Rattle.rooms.specs.Rooms.{numberAt}
 use Rattle.faults.specs.Faults.{faults}
 
 -- a fault's number with the first pair, or what is told else

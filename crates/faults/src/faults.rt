@@ -6,7 +6,7 @@ ghost use Rattle.tables.specs.Rows.{rows, name};
 ghost use Rattle.tables.specs.Rules.{Keeps};
 ghost use Rattle.tables.specs.Heads.{Headed};
 ghost use Rattle.relation.specs.Table.{related};
-ghost use Rattle.order.specs.Order.{numberAt, TwoCommands};
+ghost use Rattle.rooms.specs.Rooms.{numberAt, TwoCommands};
 ghost use Rattle.faults.specs.Faults.{succeeds, reuse, conflict, race, faulty, pairOf, Looks};
 use relation::related;
 use sheet::Pair;

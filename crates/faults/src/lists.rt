@@ -3,7 +3,7 @@ ghost use mathlib.Core.Path.{_≡_};
 ghost use Prim.Native.Nat.{_<_, _^_};
 ghost use Rattle.tables.specs.Limits.{mostRows};
 ghost use Rattle.tables.specs.Rows.{rows};
-ghost use Rattle.order.specs.Order.{OneCommand};
+ghost use Rattle.rooms.specs.Rooms.{OneCommand};
 ghost use Rattle.faults.specs.Lists.{listed, barrierList, key, Lists, Candidate, Unlisted};
 use crate::faults::Fault;
 use tables::Table;

@@ -5,7 +5,7 @@ ghost use lib.ListN.{length};
 ghost use Rattle.tables.specs.Limits.{mostRows};
 ghost use Rattle.tables.specs.Rows.{rows};
 ghost use Rattle.relation.specs.Table.{related};
-ghost use Rattle.order.specs.Order.{numberAt};
+ghost use Rattle.rooms.specs.Rooms.{numberAt};
 ghost use Rattle.sheet.specs.Sheet.{sheetOf, addAll};
 ghost use Rattle.faults.specs.Faults.{faulty, pairOf, alongRow, faults, Searches};
 ghost use Rattle.faults.specs.Lists.{Lists};

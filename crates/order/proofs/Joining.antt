@@ -18,7 +18,8 @@ use Rattle.relation.proofs.Passes.{joined-join, joined-length, takes-join, join
 use Rattle.relation.proofs.Rooms.{wrote}
 use Rattle.schedules.specs.Order.{along, meets}
 use Rattle.replay.specs.Step.{registers, syncs}
-use Rattle.order.specs.Order.{numberAt, meets as order-meets, Reached, Roomy}
+use Rattle.rooms.specs.Rooms.{numberAt, Roomy}
+use Rattle.order.specs.Order.{meets as order-meets, Reached}
 use Rattle.order.specs.Leaders.{leader, LedBelow, Led}
 use Rattle.order.specs.Closing.{Edges, Along, Prepared, FromTo, Pulls, next, to, from, each, Sweeps, AllTaken}
 

@@ -6,14 +6,9 @@ use Prim.Native.Nat.{ℕ}
 use native.Mathlib.Decide.{ℕ-discrete}
 use Rattle.tables.specs.Verdicts.{numbered}
 use Rattle.tables.specs.declared.verdict.Verdict.{Verdict}
-use Rattle.tables.proofs.Verdicts.{numbered-one}
 use Rattle.relation.proofs.Rooms.{Words, holds-one}
-use Rattle.order.specs.Refusals.{refused}
+use Rattle.rooms.proofs.Unique.{refuse-one}
 use Rattle.order.specs.Orders.{Orders}
-
-pub refuse-one : (commands lengths : List ℕ) (relation generations : ℕ) (a b : Verdict) → numbered a ≡ refused commands lengths relation generations
-    → numbered b ≡ refused commands lengths relation generations → a ≡ b
-refuse-one commands lengths relation generations a b A B = numbered-one a b (A ∙ sym B)
 
 -- words of 32 bits stand in the rooms
 pub put-order-one : (commands lengths generations relation : List ℕ) (a b : Verdict) {ra rb : List ℕ} → Words ra → Words rb

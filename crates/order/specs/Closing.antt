@@ -8,7 +8,7 @@ use Rattle.tables.specs.Rows.{rows}
 use Rattle.relation.specs.Passes.{Joined, Takes, Pass}
 use Rattle.schedules.specs.Order.{Edge}
 use Rattle.replay.specs.Program.{program}
-use Rattle.order.specs.Order.{numberAt, Roomy}
+use Rattle.rooms.specs.Rooms.{numberAt, Roomy}
 use Rattle.order.specs.Leaders.{leader}
 
 -- the edges of happens-before

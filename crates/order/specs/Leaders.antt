@@ -7,7 +7,8 @@ use lib.ListN.{getD}
 use Rattle.tables.specs.Limits.{mostRows, barriers}
 use Rattle.tables.specs.Rows.{rows, name}
 use Rattle.replay.specs.Step.{syncs}
-use Rattle.order.specs.Order.{numberAt, meets}
+use Rattle.rooms.specs.Rooms.{numberAt}
+use Rattle.order.specs.Order.{meets}
 
 -- a seat for each barrier and each generation that a review can have; other generations share them
 abbrev pub seats : ℕ

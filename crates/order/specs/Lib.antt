@@ -1,6 +1,5 @@
--- Read in this order: Refusals (1 to 4); Order (happens-before over offered generations); Orders (what `put_order` promises). By themselves: Leaders and Closing (how
+-- Read in this order: Order (happens-before over offered generations); Orders (what `put_order` promises). By themselves: Leaders and Closing (how
 -- happens-before is made; nothing public speaks of it).
-pub mod Refusals
 pub mod Order
 pub mod Orders
 pub mod Leaders

@@ -6,8 +6,9 @@ use Prim.Native.Nat.{ℕ}
 use lib.ListN.{length}
 use Rattle.tables.specs.Verdicts.{numbered}
 use Rattle.tables.specs.declared.verdict.Verdict.{Verdict}
-use Rattle.order.specs.Refusals.{refused}
-use Rattle.order.specs.Order.{numberAt, Reached}
+use Rattle.rooms.specs.Refusals.{refused}
+use Rattle.rooms.specs.Rooms.{numberAt}
+use Rattle.order.specs.Order.{Reached}
 
 -- 1 to 4 and the room as it was; or 0, and the room holds what reaches what over the generations.
 pub record Orders (commands lengths generations relation : List ℕ) (r : Verdict) (relation′ : List ℕ) : Type 0 where

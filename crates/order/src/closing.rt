@@ -4,7 +4,7 @@ ghost use mathlib.Core.Bool.{true};
 ghost use Prim.Native.Nat.{_≤_, _<_, min};
 ghost use Rattle.tables.specs.Rows.{rows};
 ghost use Rattle.relation.specs.Passes.{At};
-ghost use Rattle.order.specs.Order.{Roomy};
+ghost use Rattle.rooms.specs.Rooms.{Roomy};
 ghost use Rattle.order.specs.Leaders.{Led};
 ghost use Rattle.order.specs.Closing.{Along, Prepared, FromTo, Pulls, Sweeps, AllTaken};
 use crate::edges::edge;

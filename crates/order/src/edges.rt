@@ -7,7 +7,8 @@ ghost use Rattle.tables.specs.Rows.{rows, name};
 ghost use Rattle.tables.specs.Rules.{Keeps};
 ghost use Rattle.schedules.specs.Order.{edge};
 ghost use Rattle.replay.specs.Program.{program};
-ghost use Rattle.order.specs.Order.{numberAt, meets, TwoCommands};
+ghost use Rattle.rooms.specs.Rooms.{numberAt, TwoCommands};
+ghost use Rattle.order.specs.Order.{meets};
 use tables::Table;
 
 // Have i and j the same barrier, or the same address?

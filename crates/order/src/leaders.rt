@@ -5,7 +5,7 @@ ghost use Prim.Native.Nat.{_≤_, _<_, _^_};
 ghost use lib.ListN.{length};
 ghost use Rattle.tables.specs.Limits.{mostRows};
 ghost use Rattle.tables.specs.Rows.{rows};
-ghost use Rattle.order.specs.Order.{OneCommand};
+ghost use Rattle.rooms.specs.Rooms.{OneCommand};
 ghost use Rattle.order.specs.Leaders.{seats, seat, leader, Led};
 use crate::edges::meets;
 use tables::Table;

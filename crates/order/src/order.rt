@@ -1,8 +1,8 @@
 // Happens-before over offered generations, into its room.
 ghost use Rattle.order.specs.Orders.{Orders};
 use crate::closing::close_along;
-use crate::refusal::refuse;
 use relation::diagonal;
+use rooms::refuse;
 use tables::Verdict;
 
 // Happens-before over the generations, into any room. A refusal leaves the room as it was.

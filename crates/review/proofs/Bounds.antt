@@ -32,11 +32,11 @@ use Rattle.faults.specs.declared.faults.Fault.the-variants.{Reuse, Race}
 use Rattle.faults.specs.declared.finding.Finding.{Finding}
 use Rattle.faults.specs.Faults.{pairOf, faults}
 use Rattle.sheet.specs.Sheet.{mostKept, pair, firsts, sheetOf}
-use Rattle.order.specs.Refusals.{shortRooms, refused}
+use Rattle.rooms.specs.Refusals.{shortRooms, refused}
 use Rattle.faults.specs.Findings.{firstPair, orPairs, faultTold, faultPairs}
 use Rattle.review.specs.Judge.{generations, reaches, verdictOf, fills}
 use Rattle.review.specs.Agreement.{number, Reviewed}
-use Rattle.order.proofs.Refusals.{admitted, refused-small}
+use Rattle.rooms.proofs.Refusals.{admitted, refused-small}
 use Rattle.faults.proofs.Searching.{faults-few}
 use Rattle.faults.proofs.Pairs.{in-order}
 use Rattle.review.proofs.Reviews.{no-fill, fault-small}

@@ -14,7 +14,7 @@ use Rattle.replay.specs.Replay.{playing, played}
 use Rattle.replay.specs.Ending.{ended, judged}
 use Rattle.sheet.specs.Sheet.{sheetOf}
 use Rattle.faults.specs.Faults.{succeeds, reuse, conflict, race, alongRow, allRows, faults}
-use Rattle.order.specs.Refusals.{refused}
+use Rattle.rooms.specs.Refusals.{refused}
 use Rattle.review.specs.Judge.{verdictOf}
 use Rattle.review.specs.Examples.{examples, all, same, word, below, holds}
 

@@ -22,8 +22,9 @@ use Rattle.faults.specs.declared.finding.Finding.{Finding}
 use Rattle.replay.specs.Replay.{played}
 use Rattle.replay.specs.Doors.{Replays}
 use Rattle.replay.specs.Ending.{judged}
-use Rattle.order.specs.Refusals.{refused}
-use Rattle.order.specs.Order.{numberAt, Reached}
+use Rattle.rooms.specs.Refusals.{refused}
+use Rattle.rooms.specs.Rooms.{numberAt}
+use Rattle.order.specs.Order.{Reached}
 use Rattle.order.specs.Orders.{Orders}
 use Rattle.faults.specs.Faults.{faults}
 use Rattle.sheet.specs.Sheet.{sheetOf}
@@ -34,7 +35,7 @@ use Rattle.replay.proofs.Refusals.{or-first, or-second}
 use Rattle.replay.proofs.Plays.{Through, clean-through}
 use Rattle.replay.proofs.Judged.{judged-small, clean-verdict}
 use Rattle.review.proofs.Rooms.{put-front, put-beyond}
-use Rattle.order.proofs.Refusals.{Admitted, refused-small, admitted}
+use Rattle.rooms.proofs.Refusals.{Admitted, refused-small, admitted}
 use Rattle.order.proofs.Drawing.{same-reached, related-reaches}
 use Rattle.faults.proofs.Pairs.{same-faults}
 use Rattle.review.proofs.Judging.{told, judges}

@@ -13,7 +13,7 @@ use Rattle.replay.specs.Replay.{played}
 use Rattle.order.specs.Order.{Reached}
 use Rattle.sheet.specs.Sheet.{sheetOf}
 use Rattle.faults.specs.Faults.{conflict}
-use Rattle.order.specs.Refusals.{refused}
+use Rattle.rooms.specs.Refusals.{refused}
 use Rattle.faults.specs.Findings.{faultPairs}
 use Rattle.review.specs.Judge.{put, verdictOf, generations, reaches, fills}
 use Rattle.replay.specs.Schedules.{Complete, Agree, InOneOrder, Disagree}

@@ -10,7 +10,7 @@ use Rattle.replay.specs.InOrder.{orElse}
 use Rattle.replay.specs.Replay.{played, generation}
 use Rattle.replay.specs.Ending.{judged}
 use Rattle.replay.specs.Program.{program}
-use Rattle.order.specs.Refusals.{refused}
+use Rattle.rooms.specs.Refusals.{refused}
 use Rattle.faults.specs.Findings.{faultTold}
 
 -- the first m numbers are put into a room; the rest is kept

@@ -5,8 +5,8 @@ use faults::Finding;
 use faults::bare;
 use faults::find_faults;
 use order::put_order;
-use order::refuse;
 use replay::judge;
+use rooms::refuse;
 
 // Any tables, any schedule, any rooms. The verdict up to 9 is found before a room is touched; only for 0, 10 and 11 are they filled.
 pub fn review(

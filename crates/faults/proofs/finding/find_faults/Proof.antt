@@ -7,7 +7,7 @@ use borrow.Author.Needs.{needs}
 use Rattle.tables.specs.Limits.{mostRows}
 use Rattle.tables.proofs.Filling.{headed}
 use Rattle.replay.proofs.Refusals.{number-is, said-zero}
-use Rattle.order.proofs.Refusals.{admitted}
+use Rattle.rooms.proofs.Refusals.{admitted}
 use Rattle.faults.proofs.Founds.{finds-refused, finds-looked}
 use Rattle.faults.proofs.finding.find_faults.Statement.{statement}
 use Rattle.faults.proofs.finding.find_faults.Tie as tie

@@ -6,7 +6,7 @@ use native.Mathlib.Omega.{arith}
 use Rattle.tables.specs.Limits.{mostRows}
 use Rattle.tables.specs.Rows.{rows}
 use Rattle.relation.specs.Table.{related}
-use Rattle.order.specs.Order.{numberAt}
+use Rattle.rooms.specs.Rooms.{numberAt}
 use Rattle.sheet.specs.Sheet.{mostKept, sheetOf}
 use Rattle.faults.specs.Faults.{faulty, pairOf, allRows, faults}
 use Rattle.faults.proofs.Searching.{all-none, total-few, row-empty, row-kept, row-counted}

@@ -10,7 +10,7 @@ use Rattle.relation.proofs.Truth.{clashing}
 use Rattle.relation.proofs.Passes.{pass-none, pass-one}
 use Rattle.schedules.proofs.Table.{edge-low, edge-in, edge-out}
 use Rattle.replay.specs.Program.{program}
-use Rattle.order.specs.Order.{numberAt}
+use Rattle.rooms.specs.Rooms.{numberAt}
 use borrow.Author.Needs.{needs}
 use Rattle.order.proofs.closing.join_along.Statement.{statement}
 use Rattle.order.proofs.closing.join_along.Tie as tie

@@ -5,7 +5,7 @@ use native.Mathlib.Omega.{arith}
 use borrow.Author.Tests.{eq-eqb, ne-eqb}
 use Rattle.tables.specs.Limits.{mostRows}
 use Rattle.tables.proofs.Filling.{first-by-head}
-use Rattle.order.specs.Order.{numberAt}
+use Rattle.rooms.specs.Rooms.{numberAt}
 use Rattle.order.proofs.Drawing.{edge-along, edge-meets}
 use borrow.Author.Needs.{needs}
 use Rattle.order.proofs.edges.edge.Statement.{statement}

@@ -7,9 +7,9 @@ use lib.ListN.{length}
 use Rattle.tables.specs.Limits.{mostRows}
 use Rattle.tables.proofs.Verdicts.{zero-told}
 use Rattle.replay.proofs.Refusals.{number-is, said-zero}
-use Rattle.order.specs.Refusals.{refused}
-use Rattle.order.specs.Order.{Roomy}
-use Rattle.order.proofs.Refusals.{admitted}
+use Rattle.rooms.specs.Refusals.{refused}
+use Rattle.rooms.specs.Rooms.{Roomy}
+use Rattle.rooms.proofs.Refusals.{admitted}
 use Rattle.order.proofs.Joining.{roomy-diagonal, ordered}
 use borrow.Author.Needs.{needs}
 use Rattle.order.proofs.order.put_order.Statement.{statement}

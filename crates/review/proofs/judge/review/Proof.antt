@@ -2,7 +2,7 @@
 use mathlib.Core.Path.{sym, _∙_}
 use borrow.Author.Needs.{needs}
 use Rattle.replay.proofs.Refusals.{number-is, said-zero}
-use Rattle.order.proofs.Refusals.{admitted}
+use Rattle.rooms.proofs.Refusals.{admitted}
 use Rattle.review.proofs.Reviews.{reviewed-refused, reviewed-judged, reviewed-filled}
 use Rattle.review.proofs.judge.review.Statement.{statement}
 use Rattle.review.proofs.judge.review.Tie as tie

@@ -1,7 +1,7 @@
 // Refusals 1 to 4, before a room is touched.
 ghost use mathlib.Core.Path.{_≡_};
 ghost use Rattle.tables.specs.Verdicts.{numbered};
-ghost use Rattle.order.specs.Refusals.{refused};
+ghost use Rattle.rooms.specs.Refusals.{refused};
 use relation::table_words;
 use tables::Verdict;
 use tables::check_tables;

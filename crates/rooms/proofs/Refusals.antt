@@ -16,7 +16,7 @@ use Rattle.tables.specs.declared.verdict.Verdict.{Verdict}
 use Rattle.tables.proofs.Rules.{passes-zero, checked-small}
 use Rattle.relation.specs.Table.{words}
 use Rattle.replay.proofs.Refusals.{check-first, check-second}
-use Rattle.order.specs.Refusals.{shortRooms, refused}
+use Rattle.rooms.specs.Refusals.{shortRooms, refused}
 
 module _ (commands lengths : List ℕ) (v : Verdict) {told : Told} (check : numbered v ≡ checked commands lengths) (said : told ≡ numbered v) where
   -- of rooms so long

@@ -3,9 +3,9 @@ use native.Mathlib.Omega.{arith}
 use borrow.Author.Needs.{needs}
 use Rattle.tables.specs.Limits.{mostRows}
 use Rattle.replay.proofs.Refusals.{passed}
-use Rattle.order.proofs.Refusals.{refuses-tables, refuses-relation, refuses-generations, refuses-none}
-use Rattle.order.proofs.refusal.refuse.Statement.{statement}
-use Rattle.order.proofs.refusal.refuse.Tie as tie
+use Rattle.rooms.proofs.Refusals.{refuses-tables, refuses-relation, refuses-generations, refuses-none}
+use Rattle.rooms.proofs.refusal.refuse.Statement.{statement}
+use Rattle.rooms.proofs.refusal.refuse.Tie as tie
 
 returns : tie.Need-returns
 returns c =

@@ -1,0 +1,3 @@
+-- Laws: Refusals (1 to 4, each from the test that found it; tables and rooms that pass), Unique (`refuse` has one answer).
+pub mod Refusals
+pub mod Unique

@@ -1,0 +1,4 @@
+// The rooms that a review is lent: whether tables pass and their rooms suffice, before any of them is touched.
+mod refusal; // refusals 1 to 4, of tables and the lengths of the two rooms
+
+pub use refusal::refuse;
