@@ -7,14 +7,14 @@ use Prim.Native.Nat.{ℕ, suc, _*_, _-_, _^_, _≤_, _<_}
 use native.Mathlib.Decide.{ℕ-discrete, decLt}
 use native.Mathlib.Omega.{arith}
 use lib.ListN.{length}
 use Rattle.relation.specs.Chains.{Reach, here, goes}
 use Rattle.relation.specs.Bits.{bitAt, sum, RowIs, RowJoined, joined}
-use Rattle.relation.specs.Table.{width, words, Holds, Joins}
-use Rattle.relation.specs.Passes.{Joined, none, more, Takes, Pass, At, SoundTable}
+use Rattle.relation.specs.Table.{width, words, inside, Holds, Joins}
+use Rattle.sweeps.specs.Passes.{Joined, none, more, Takes, Pass, At, SoundTable}
 use Rattle.relation.proofs.Truth.{split, isnt, clashing, either, neither, left, right}
 use Rattle.relation.proofs.Chains.{reach-join}
 use Rattle.relation.proofs.Rows.{other-row}
-use Rattle.relation.proofs.Rooms.{Words, wide, row-in, place-in}
+use Rattle.relation.proofs.Rooms.{Words, wide, row-in, place, place-in}
 
 -- ---- passes
 
@@ -26,6 +26,10 @@ module _ {E : ℕ → ℕ → Type 0} {m : ℕ} where
   pub joined-length : {a b : List ℕ} → Joined E m a b → length b ≡ length a
   joined-length none = refl
   joined-length (more q li lk e N) = N .len ∙ joined-length q
+
+  -- there is as much room as before
+  pub still-fits : {a b : List ℕ} → words m ≤ length a → Joined E m a b → words m ≤ length b
+  still-fits fits p = rw (joined-length p) fits
 
   -- nothing is joined where no pair that is tried has an edge
   pub pass-none : {T : ℕ → ℕ → Type 0} {a : List ℕ} → ((i k : ℕ) → T i k → E i k → ⊥) → Pass E m T a a false
@@ -63,6 +67,19 @@ module _ {E : ℕ → ℕ → Type 0} {m : ℕ} where
             (record { bits = λ j lj s. ap (λ (r : List ℕ). bitAt r (width m) i j) (sym (N .still f)) ∙ N .row .bits j lj ∙ right (bitAt b (width m) i j) _ s });
         grown = N .grown;
       }
+
+  -- one pair is tried: where a number is too large nothing is joined, and the pair is no edge
+  pub pass-try : {b a : List ℕ} {i k : ℕ} {said : Bool} → words m ≤ length b → ((x y : ℕ) → E x y → (x < m) × (y < m)) → (i < m → k < m → E i k)
+      → Joins b a m i k said → Pass E m (At i k) b a said
+  pass-try {b} {a} {i} {k} {said} fits low edge J =
+      by-cases (decLt i m)
+      (λ (li : i < m).
+      by-cases (decLt k m) (λ (lk : k < m). pass-one fits li lk (edge li lk) J)
+      (λ (n : ¬ (k < m)). nothing (λ t. n (place _ _ _ _ t .to)) (λ x y t e. absurd (omega (arith, t .1, low x y e .1)))))
+      (λ (n : ¬ (i < m)). nothing (λ t. n (place _ _ _ _ t .from)) (λ x y t e. absurd (omega (arith, t .0, low x y e .0))))
+    where
+      nothing : ¬ (inside (length b) m i k ≡ true) → ((x y : ℕ) → At i k x y → E x y → ⊥) → Pass E m (At i k) b a said
+      nothing out n = let (q, r) = J .outside (isnt _ out) in rw (q, r) (pass-none n)
 
 pub takes-join : {r : List ℕ} {m i k j : ℕ} → Takes r m i k → Takes r m k j → Takes r m i j
 takes-join A B = record { bits = λ y ly t. A .bits y ly (B .bits y ly t) }

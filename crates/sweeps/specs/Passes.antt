@@ -34,3 +34,8 @@ pub record SoundTable (before after : List ℕ) (m : ℕ) (R : ℕ → ℕ → T
   pub diagonal : (i : ℕ) → i < m → bitAt after (width m) i i ≡ true
   pub sound : (i j : ℕ) → i < m → j < 32 * width m → bitAt after (width m) i j ≡ true → (j < m) × R i j
   pub kept : (p : ℕ) → words m ≤ p → getD after p 0 ≡ getD before p 0
+
+-- rows were joined along edges until each edge was taken
+pub record AllTaken (E : ℕ → ℕ → Type 0) (m : ℕ) (before after : List ℕ) : Type 0 where
+  pub joins : Joined E m before after
+  pub closed : (i k : ℕ) → E i k → Takes after m i k
