@@ -1,14 +1,14 @@
 // The edges of happens-before over offered generations.
 ghost use mathlib.Core.Path.{_≡_};
-ghost use Prim.Native.Nat.{_<_};
+ghost use Prim.Native.Nat.{_≤_, _<_};
 ghost use lib.Dec.{eqb};
-ghost use Rattle.tables.specs.Heads.{Headed};
+ghost use lib.ListN.{length};
+ghost use Rattle.tables.specs.Limits.{mostRows};
 ghost use Rattle.tables.specs.Rows.{rows, name};
-ghost use Rattle.tables.specs.Rules.{Keeps};
-ghost use Rattle.schedules.specs.Order.{edge};
-ghost use Rattle.replay.specs.Program.{program};
 ghost use Rattle.rooms.specs.Rooms.{numberAt, TwoCommands};
 ghost use Rattle.order.specs.Order.{meets};
+ghost use Rattle.order.specs.Leaders.{met};
+ghost use Rattle.order.specs.Listing.{follows};
 use tables::Table;
 
 // Have i and j the same barrier, or the same address?
@@ -20,7 +20,7 @@ fn same_name(commands: &[u32], i: usize, j: usize) -> bool
 }
 
 // Does i register where and when j syncs: at the same barrier, in the same generation?
-pub(crate) fn meets(commands: &[u32], generations: &[u32], i: usize, j: usize) -> bool
+fn meets(commands: &[u32], generations: &[u32], i: usize, j: usize) -> bool
     requires { ⌜ TwoCommands (now commands) (now generations) i j ⌝ }
     ensures { λ r. ⌜ r ≡ meets (now (commands .entry)) (numberAt (now (generations .entry))) i j ⌝ }
 {
@@ -31,22 +31,29 @@ pub(crate) fn meets(commands: &[u32], generations: &[u32], i: usize, j: usize) -
     registers & syncs & same_barrier & same_generation
 }
 
-// Is j its thread's next after i, or one that i meets?
-pub(crate) fn edge(
-    commands: &[u32],
-    lengths: &[u32],
-    generations: &[u32],
-    heads: &[usize; Table::ROWS],
-    i: usize,
-    j: usize,
-) -> bool
-    requires { ⌜ Keeps (now commands) (now lengths) × Headed (now lengths) (now heads) × TwoCommands (now commands) (now generations) i j ⌝ }
-    ensures { λ r. ⌜ r ≡ edge (program (now (commands .entry)) (now (lengths .entry))) (numberAt (now (generations .entry))) i j ⌝ }
+// The same of any two numbers: those that are no rows do not meet.
+pub(crate) fn met(commands: &[u32], generations: &[u32], i: usize, j: usize) -> bool
+    requires { ⌜ rows (now commands) ≤ length (now generations) ⌝ }
+    ensures { λ r. ⌜ r ≡ met (now (commands .entry)) (now (generations .entry)) i j ⌝ }
 {
-    if j == i + 1 {
-        if j != heads[j] {
-            return true;
-        }
+    let m = commands.len() / 3;
+    if m <= i {
+        return false;
+    }
+    if m <= j {
+        return false;
     }
     meets(commands, generations, i, j)
+}
+
+// Is the row after c there, and of c's thread?
+pub(crate) fn follows(heads: &[usize; Table::ROWS], m: usize, c: usize) -> bool
+    requires { ⌜ (c < m) × (m ≤ mostRows) ⌝ }
+    ensures { λ r. ⌜ r ≡ follows (now (heads .entry)) m c ⌝ }
+{
+    let next = c + 1;
+    if next < m {
+        return next != heads[next];
+    }
+    false
 }

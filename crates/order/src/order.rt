@@ -1,9 +1,39 @@
 // Happens-before over offered generations, into its room.
+ghost use Rattle.rooms.specs.Rooms.{numberAt, Roomy};
+ghost use Rattle.order.specs.Order.{Reached};
 ghost use Rattle.order.specs.Orders.{Orders};
-use crate::closing::close_along;
-use relation::diagonal;
+use crate::leaders::SEATS;
+use crate::leaders::choose;
+use crate::listing::NUMBERS;
+use crate::listing::put_pairs;
 use rooms::refuse;
+use sweeps::put_reach;
+use tables::Table;
 use tables::Verdict;
+use tables::put_heads;
+
+// The rooms suffice: pairs are listed, and what they reach is happens-before. A seat that nobody takes holds no row's number.
+fn put_reached(commands: &[u32], lengths: &[u32], generations: &[u32], relation: &mut [u32])
+    requires { ⌜ Roomy (now commands) (now lengths) (now generations) (now relation) ⌝ }
+    ensures { λ _. ⌜ Reached (now (commands .entry)) (now (lengths .entry)) (numberAt (now (generations .entry))) (now (relation .entry)) (now (relation .exit)) ⌝ }
+{
+    let mut heads = [0; Table::ROWS];
+    put_heads(lengths, &mut heads);
+    let mut leaders = [Table::ROWS as u16; SEATS];
+    choose(commands, generations, &mut leaders);
+    let mut pairs = [0u32; NUMBERS];
+    let mut parts = [0u32; Table::THREADS];
+    let end = put_pairs(
+        commands,
+        generations,
+        &heads,
+        &leaders,
+        &mut pairs,
+        &mut parts,
+    )
+        * 2;
+    put_reach(relation, (commands.len() / 3) as u32, &pairs[..end], &parts);
+}
 
 // Happens-before over the generations, into any room. A refusal leaves the room as it was.
 pub fn put_order(
@@ -18,8 +48,6 @@ pub fn put_order(
     if refusal.number().number != 0 {
         return refusal;
     }
-    let m = (commands.len() / 3) as u32;
-    diagonal(relation, m);
-    close_along(commands, lengths, generations, relation);
+    put_reached(commands, lengths, generations, relation);
     Verdict::Clean
 }

@@ -36,7 +36,7 @@ use Rattle.replay.proofs.Plays.{Through, clean-through}
 use Rattle.replay.proofs.Judged.{judged-small, clean-verdict}
 use Rattle.review.proofs.Rooms.{put-front, put-beyond}
 use Rattle.rooms.proofs.Refusals.{Admitted, refused-small, admitted}
-use Rattle.order.proofs.Drawing.{same-reached, related-reaches}
+use Rattle.order.proofs.Reaching.{same-reached, related-reaches}
 use Rattle.faults.proofs.Pairs.{same-faults}
 use Rattle.review.proofs.Judging.{told, judges}
 

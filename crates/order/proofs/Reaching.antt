@@ -1,0 +1,53 @@
+-- The tests of an edge, and what a room holds that holds happens-before. Assumes nothing.
+use mathlib.Core.Path.{_≡_, sym, ap, _∙_}
+use mathlib.Core.Logic.{_⊎_, inl, inr, _≢_}
+use mathlib.Core.Bool.{true, false, not, and-false}
+use mathlib.Core.List.{List}
+use Prim.Native.Nat.{ℕ, suc, _+_, _≤_, _<_}
+use native.Mathlib.Numerals.{add-one}
+use native.Mathlib.Omega.{arith}
+use lib.Dec.{eqb}
+use lib.ListN.{length}
+use borrow.Author.Tests.{eq-eqb, ne-eqb}
+use Rattle.tables.specs.Rows.{rows, isFirst}
+use Rattle.relation.specs.Table.{words, related}
+use Rattle.relation.proofs.Truth.{same-test, pair, left}
+use Rattle.relation.proofs.Chains.{reach-map}
+use Rattle.relation.proofs.Rooms.{holds-related, holds-map}
+use Rattle.schedules.specs.Order.{Reaches, edge, reach}
+use Rattle.schedules.proofs.Table.{decides, edge-alike}
+use Rattle.replay.specs.Program.{program}
+use Rattle.order.specs.Order.{meets, Reached}
+
+-- ---- each edge
+
+module _ (commands lengths : List ℕ) (g : ℕ → ℕ) where
+  pub edge-along : (i j : ℕ) → j ≡ i + 1 → isFirst lengths j ≡ false → edge (program commands lengths) g i j ≡ true
+  unfolding edge
+  edge-along i j e f = left _ _ (pair _ _ (eq-eqb j (suc i) (e ∙ add-one i)) (ap not f))
+
+  pub edge-meets : (i j : ℕ) → (j ≢ i + 1) ⊎ (isFirst lengths j ≡ true) → edge (program commands lengths) g i j ≡ meets commands g i j
+  unfolding edge
+  edge-meets i j (inl u) = rw (ne-eqb j (suc i) (λ e. u (e ∙ sym (add-one i))))
+  edge-meets i j (inr t) = rw (t, and-false (eqb j (suc i)))
+
+module _ (commands lengths : List ℕ) (g : ℕ → ℕ) where
+  abbrev m : ℕ
+  m = rows commands
+
+  -- ---- what a room holds that holds happens-before
+
+  pub related-reaches : (b a : List ℕ) → Reached commands lengths g b a → words m ≤ length b → (i j : ℕ) → i < m → j < m
+      → related a m i j ≡ reach (program commands lengths) g i j
+  related-reaches b a H fits i j li lj =
+      let (f, t) = holds-related b a m (Reaches (program commands lengths) g) H i j (record { fits = omega (arith, H .len); from = li; to = lj }) in
+      let (u, v) = decides (program commands lengths) g i j li lj in
+      same-test _ _ (λ e. v (f e)) (λ e. t (u e))
+
+-- over generations that are the same
+pub same-reached : (commands lengths : List ℕ) (g h : ℕ → ℕ) → ((c : ℕ) → c < rows commands → g c ≡ h c)
+    → (b a : List ℕ) → Reached commands lengths g b a → Reached commands lengths h b a
+same-reached commands lengths g h same b a H =
+    holds-map b a (rows commands) (Reaches (program commands lengths) g) (Reaches (program commands lengths) h)
+    (λ i j li lj. (λ p. reach-map (edge-alike same) p, λ p. reach-map (edge-alike (λ c l. sym (same c l))) p))
+    H

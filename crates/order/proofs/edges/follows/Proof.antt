@@ -1,0 +1,20 @@
+-- The row is past the end, or its head tells. Assumes nothing.
+use mathlib.Core.Path.{_≡_, sym, ap, _∙_}
+use mathlib.Core.Bool.{not}
+use native.Mathlib.Omega.{arith}
+use borrow.Author.Tests.{lt-ltb, le-ltb}
+use Rattle.tables.specs.Limits.{mostRows}
+use borrow.Author.Needs.{needs}
+use Rattle.order.proofs.edges.follows.Statement.{statement}
+use Rattle.order.proofs.edges.follows.Tie as tie
+
+returns : tie.Need-returns
+returns c = simp (lt-ltb _ _ (c .before .if1 .taken))
+
+returns-2 : tie.Need-returns-2
+returns-2 c = simp (le-ltb _ _ (c .if1 .left))
+
+pub follows-spec : {M : Type 1} → statement M
+unfolding mostRows
+follows-spec =
+    tie.close (tie.spec (λ c. search needs) (λ c. search needs) (λ c. search needs) returns returns-2)
