@@ -1,6 +1,5 @@
 -- The rows below i are trimmed. Assumes nothing.
 use Prim.Native.Nat.{_≤_, _-_}
-use native.Mathlib.Omega.{arith}
 use mathlib.Core.Path.{sym}
 use lib.ListN.{length}
 use Rattle.relation.specs.Table.{width}
