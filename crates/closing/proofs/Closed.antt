@@ -11,16 +11,15 @@ use Rattle.relation.specs.Chains.{Chain, On, rounds}
 use Rattle.relation.specs.Bits.{bitAt}
 use Rattle.relation.specs.Table.{width, words, Related, Holds}
 use Rattle.relation.proofs.Truth.{both, pair}
-use Rattle.relation.proofs.Chains.{decides, chain-map}
+use Rattle.relation.proofs.Chains.{chain-map, rounds-zero, rounds-suc, decides}
 use Rattle.relation.proofs.Rooms.{wide, related-at, related-inside}
 use Rattle.closing.specs.Rows.{RowsAre, trimmed}
 
 -- a column that is empty stays so
 rounds-none : (f : ℕ → ℕ → Bool) (m k i j : ℕ) → ((i : ℕ) → i < m → f i j ≡ false) → k ≤ m → i < m → rounds f k i j ≡ false
-unfolding rounds
-rounds-none f m zero i j none l li = none i li
+rounds-none f m zero i j none l li = rounds-zero f i j ∙ none i li
 rounds-none f m (suc k) i j none l li =
-    rw (rounds-none f m k i j none (omega arith) li, rounds-none f m k k j none (omega arith) (omega arith)) (and-false (rounds f k i k))
+    rw (rounds-suc f k i j, rounds-none f m k i j none (omega arith) li, rounds-none f m k k j none (omega arith) (omega arith)) (and-false (rounds f k i k))
 
 module _ (b r s : List ℕ) (m : ℕ) (fits : words m ≤ length b) (T : RowsAre b r (width m) m (trimmed b (width m) m))
     (A : RowsAre r s (width m) m (rounds (bitAt r (width m)) m)) where

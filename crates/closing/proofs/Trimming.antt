@@ -1,48 +1,23 @@
 -- The padding of a row is cut off, by a remainder of its last word. Assumes nothing.
-use Prim.Native.Nat.{ℕ, suc, _+_, _-_, _*_, _/_, _%_, _^_, _≤_, _<_}
-use native.Mathlib.Nat.{div-eq-of-lt, one-mul, mod-lt, lt-of-lt-of-le}
-use native.Mathlib.Numerals.{add-one}
+use Prim.Native.Nat.{ℕ, _+_, _*_, _/_, _%_, _^_, _<_}
+use native.Mathlib.Nat.{one-mul}
 use native.Mathlib.Omega.{arith}
 use native.Mathlib.Decide.{decLt, ℕ-discrete}
 use mathlib.Core.Path.{_≡_, refl, sym, ap, _∙_}
 use mathlib.Core.Logic.{by-cases, _≢_}
-use mathlib.Core.Bool.{Bool, false, _&&_}
+use mathlib.Core.Bool.{Bool, _&&_}
 use mathlib.Core.List.{List}
-use lib.Dec.{eqb, ltb}
+use lib.Dec.{ltb}
 use lib.ListN.{length, getD, set, length-set}
-use lib.Pow.{pow-pos, pow-mono, field, mod-mod-pow}
 use lib.Seq.{getD-set-same, getD-set-other}
 use borrow.Author.Tests.{lt-ltb, le-ltb}
-use Rattle.relation.specs.Bits.{bitOf, bitAt, RowIn, RowIs}
+use Rattle.relation.specs.Bits.{bitAt, RowIn, RowIs}
 use Rattle.relation.specs.Table.{width}
 use Rattle.relation.proofs.Words.{one-shl}
-use Rattle.relation.proofs.Rows.{off-row}
+use Rattle.relation.proofs.Rows.{by-word, by-cut, off-row}
+use Rattle.relation.proofs.Rooms.{last-word, full-rows}
 use Rattle.closing.specs.Rows.{RowsAre, trimmed}
 use Rattle.closing.proofs.Rows.{rows-more, not-done}
-
--- ---- a remainder
-
-rem-low : (word k d : ℕ) → bitOf (word % 2 ^ (suc d + k)) k ≡ bitOf word k
-unfolding bitOf
-rem-low word k d =
-    ap (λ (x : ℕ). eqb (x % 2) 1) (field word (suc d) k ∙ ap (λ (n : ℕ). word / 2 ^ k % 2 ^ n) (sym (add-one d)))
-    ∙ ap (λ (x : ℕ). eqb x 1) (mod-mod-pow (word / 2 ^ k) d 1)
-
-rem-high : (word n k : ℕ) → n ≤ k → bitOf (word % 2 ^ n) k ≡ false
-unfolding bitOf
-rem-high word n k l =
-    let lt : word % 2 ^ n < 2 ^ k = lt-of-lt-of-le (mod-lt word (pow-pos n)) (pow-mono l) in
-    rw (div-eq-of-lt lt)
-
-rem-bit : (word n k : ℕ) → bitOf (word % 2 ^ n) k ≡ ltb k n && bitOf word k
-rem-bit word n k =
-    by-cases (decLt k n)
-    (λ (h : k < n).
-    let e : n ≡ suc (n - suc k) + k = omega arith in
-    rw (lt-ltb k n h) (ap (λ (n : ℕ). bitOf (word % 2 ^ n) k) e ∙ rem-low word k (n - suc k)))
-    (λ (h : ¬ (k < n)). rw (le-ltb k n (omega arith)) (rem-high word n k (omega arith)))
-
--- ---- the padding of a row is cut off
 
 -- within one word of a row the order of the bits is the order in the word
 ltb-word : (j m : ℕ) → j / 32 ≡ m / 32 → ltb j m ≡ ltb (j % 32) (m % 32)
@@ -67,13 +42,12 @@ module _ (r : List ℕ) (m i : ℕ) (there : RowIn (length r) (m / 32 + 1) i) wh
       ∙ ap (λ (n : ℕ). getD r end 0 % n) (one-shl (m % 32) 32 (omega arith) ∙ one-mul (2 ^ (m % 32)))
 
   cut-bit : (j : ℕ) → j < 32 * w → bitAt cut w i j ≡ trimmed r w m i j
-  unfolding bitAt
   cut-bit j h =
       by-cases (ℕ-discrete (j / 32) (m / 32))
-      (λ (e : j / 32 ≡ m / 32). rw (e, cut-word, rem-bit, ltb-word j m e))
+      (λ (e : j / 32 ≡ m / 32). by-cut r cut w i j (m % 32) (rw e cut-word) ∙ rw (ltb-word j m e))
       (λ (n : j / 32 ≢ m / 32).
       let l : j < m = omega arith in
-      rw (lt-ltb j m l) (ap (λ (x : ℕ). bitOf x (j % 32)) (getD-set-other r end (i * w + j / 32) _ 0 (λ q. n (omega arith)))))
+      rw (lt-ltb j m l) (by-word cut r w i j (getD-set-other r end (i * w + j / 32) _ 0 (λ q. n (omega arith)))))
 
   pub cut-row : RowIs r cut w i (trimmed r w m i)
   cut-row =
@@ -82,11 +56,6 @@ module _ (r : List ℕ) (m i : ℕ) (there : RowIn (length r) (m / 32 + 1) i) wh
         bits = cut-bit;
         outside = λ p h. getD-set-other r end p _ 0 (off-row w i (m / 32) p (omega arith) h);
       }
-
--- rows that have padding have one word more than m fills
-pub last-word : (m : ℕ) → m % 32 ≢ 0 → width m ≡ m / 32 + 1
-unfolding width
-last-word m n = omega arith
 
 -- the rows below i are trimmed
 pub trim-more : (b r s : List ℕ) (m i : ℕ) → m % 32 ≢ 0 → RowsAre b r (width m) i (trimmed b (width m) m)
@@ -97,6 +66,5 @@ trim-more b r s m i n R N =
 
 -- rows without padding need no cut
 pub no-padding : (b : List ℕ) (m : ℕ) → m % 32 ≡ 0 → RowsAre b b (width m) m (trimmed b (width m) m)
-unfolding width
 no-padding b m full =
-    record { len = refl; bits = λ i j hi hj. rw (lt-ltb j m (omega arith)); kept = λ p h. refl }
+    record { len = refl; bits = λ i j hi hj. rw (lt-ltb j m (omega (arith, full-rows m full))); kept = λ p h. refl }

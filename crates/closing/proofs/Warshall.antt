@@ -11,6 +11,7 @@ use lib.ListN.{length}
 use Rattle.relation.specs.Chains.{rounds}
 use Rattle.relation.specs.Bits.{bitAt, RowIs}
 use Rattle.relation.specs.Table.{width, inside, related, Joins}
+use Rattle.relation.proofs.Chains.{rounds-zero, rounds-suc}
 use Rattle.relation.proofs.Rooms.{place, related-at}
 use Rattle.closing.specs.Rows.{RowsAre, joinedIf}
 use Rattle.closing.proofs.Rows.{rows-more, not-done}
@@ -53,14 +54,14 @@ round-self b r w k R =
 -- ---- all rounds
 
 pub round-first : (b : List ℕ) (w m : ℕ) → RowsAre b b w m (rounds (bitAt b w) 0)
-unfolding rounds
-round-first b w m = record { len = refl; bits = λ i j hi hj. refl; kept = λ p h. refl }
+round-first b w m = record { len = refl; bits = λ i j hi hj. sym (rounds-zero (bitAt b w) i j); kept = λ p h. refl }
 
 pub round-next : (b r s : List ℕ) (w m k : ℕ) → k < m → m ≤ 32 * w → RowsAre b r w m (rounds (bitAt b w) k) → RowsAre r s w m (joinedIf r w k) → RowsAre b s w m (rounds (bitAt b w) (k + 1))
-unfolding rounds
 round-next b r s w m k hk hm R S =
     record {
       len = S .len ∙ R .len;
-      bits = λ i j hi hj. rw add-one (S .bits i j hi hj ∙ ap₂ _||_ (R .bits i j hi hj) (ap₂ _&&_ (R .bits i k hi (omega arith)) (R .bits k j hk hj)));
+      bits = λ i j hi hj.
+          rw (add-one, rounds-suc)
+          (S .bits i j hi hj ∙ ap₂ _||_ (R .bits i j hi hj) (ap₂ _&&_ (R .bits i k hi (omega arith)) (R .bits k j hk hj)));
       kept = λ p h. S .kept p h ∙ R .kept p h;
     }

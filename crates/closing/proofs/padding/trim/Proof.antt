@@ -3,10 +3,10 @@ use Prim.Native.Nat.{_≤_, _-_}
 use mathlib.Core.Path.{sym}
 use lib.ListN.{length}
 use Rattle.relation.specs.Table.{width}
-use Rattle.relation.proofs.Rooms.{row-in}
+use Rattle.relation.proofs.Rooms.{last-word, row-in}
 use Rattle.closing.specs.Rows.{RowsAre, trimmed}
 use Rattle.closing.proofs.Rows.{rows-none, rows-all}
-use Rattle.closing.proofs.Trimming.{no-padding, last-word, trim-more}
+use Rattle.closing.proofs.Trimming.{no-padding, trim-more}
 use borrow.Author.Needs.{needs}
 use Rattle.closing.proofs.padding.trim.Statement.{statement}
 use Rattle.closing.proofs.padding.trim.Tie as tie
