@@ -6,9 +6,9 @@ use crate::answer::cut;
 use crate::answer::put_sheet;
 use crate::answer::put_told;
 use crate::counts::counts_of;
+use closing::close;
 use notation::read;
 use notation::rest;
-use relation::close;
 use replay::write_schedule;
 use review::review;
 

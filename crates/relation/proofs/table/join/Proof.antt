@@ -2,7 +2,7 @@
 use mathlib.Core.Path.{refl, sym, _∙_}
 use lib.ListN.{length}
 use Rattle.relation.proofs.Truth.{clashing}
-use Rattle.relation.proofs.Rooms.{place, room, row-in}
+use Rattle.relation.proofs.Rooms.{place, row-in}
 use borrow.Author.Needs.{needs}
 use Rattle.relation.proofs.table.join.Statement.{statement}
 use Rattle.relation.proofs.table.join.Tie as tie
@@ -12,8 +12,7 @@ join-row-requires c κs =
     let a = c .before .before .before .before .before .args in
     let n = length (a .room .now) in
     let I = place n (a .m) (a .i) (a .k) (sym (c .before .before .before .has-place .ensures) ∙ c .before .before .if1 .taken) in
-    let R = room n (a .m) (search needs) (I .fits) in
-    rw (c .row-words .ensures) (record { into = row-in n _ (a .m) (a .i) (R .rows) (I .from); from = row-in n _ (a .m) (a .k) (R .rows) (I .to); narrow = R .narrow })
+    rw (c .row-words .ensures) (record { into = row-in n _ (a .m) (a .i) (I .fits) (I .from); from = row-in n _ (a .m) (a .k) (I .fits) (I .to) })
 
 returns : tie.Need-returns
 returns c =
