@@ -1,10 +1,4 @@
 // Happens-before over offered generations, into its room.
-ghost use mathlib.Core.List.{List};
-ghost use Prim.Native.Nat.{ℕ, _≤_};
-ghost use lib.ListN.{length};
-ghost use Rattle.tables.specs.Heads.{Headed};
-ghost use Rattle.tables.specs.Limits.{mostRows};
-ghost use Rattle.tables.specs.Rows.{rows};
 ghost use Rattle.rooms.specs.Rooms.{numberAt, Roomy};
 ghost use Rattle.order.specs.Order.{Reached};
 ghost use Rattle.order.specs.Orders.{Orders};
@@ -18,16 +12,13 @@ use tables::Table;
 use tables::Verdict;
 use tables::put_heads;
 
-// Pairs are listed, and what they reach is happens-before, for tables of these heads and rooms that suffice. A seat that nobody takes holds no row's number.
-fn put_listed(
-    commands: &[u32],
-    generations: &[u32],
-    heads: &[usize; Table::ROWS],
-    relation: &mut [u32],
-)
-    requires { ⌜ (rows (now commands) ≤ mostRows) × (rows (now commands) ≤ length (now generations)) ⌝ }
-    ensures { λ _. ⌜ ((lengths : List ℕ) → Headed lengths (now (heads .entry)) → Roomy (now (commands .entry)) lengths (now (generations .entry)) (now (relation .entry)) → Reached (now (commands .entry)) lengths (numberAt (now (generations .entry))) (now (relation .entry)) (now (relation .exit))) ⌝ }
+// The rooms suffice: pairs are listed, and what they reach is happens-before. A seat that nobody takes holds no row's number.
+fn put_reached(commands: &[u32], lengths: &[u32], generations: &[u32], relation: &mut [u32])
+    requires { ⌜ Roomy (now commands) (now lengths) (now generations) (now relation) ⌝ }
+    ensures { λ _. ⌜ Reached (now (commands .entry)) (now (lengths .entry)) (numberAt (now (generations .entry))) (now (relation .entry)) (now (relation .exit)) ⌝ }
 {
+    let mut heads = [0; Table::ROWS];
+    put_heads(lengths, &mut heads);
     let mut leaders = [Table::ROWS as u16; SEATS];
     choose(commands, generations, &mut leaders);
     let mut pairs = [0u32; NUMBERS];
@@ -35,24 +26,13 @@ fn put_listed(
     let end = put_pairs(
         commands,
         generations,
-        heads,
+        &heads,
         &leaders,
         &mut pairs,
         &mut parts,
     )
         * 2;
-    let m = (commands.len() / 3) as u32;
-    put_reach(relation, m, &pairs[..end], &parts);
-}
-
-// The same, with the heads made first.
-fn put_reached(commands: &[u32], lengths: &[u32], generations: &[u32], relation: &mut [u32])
-    requires { ⌜ Roomy (now commands) (now lengths) (now generations) (now relation) ⌝ }
-    ensures { λ _. ⌜ Reached (now (commands .entry)) (now (lengths .entry)) (numberAt (now (generations .entry))) (now (relation .entry)) (now (relation .exit)) ⌝ }
-{
-    let mut heads = [0; Table::ROWS];
-    put_heads(lengths, &mut heads);
-    put_listed(commands, generations, &heads, relation);
+    put_reach(relation, (commands.len() / 3) as u32, &pairs[..end], &parts);
 }
 
 // Happens-before over the generations, into any room. A refusal leaves the room as it was.
