@@ -27,9 +27,9 @@ use Rattle.replay.specs.Step.{registers, syncs}
 use Rattle.rooms.specs.Rooms.{numberAt, Roomy}
 use Rattle.sweeps.specs.Pairs.{pairCount, PairBetween, PairIn}
 use Rattle.order.specs.Order.{Reached}
-use Rattle.order.specs.Leaders.{met, leader, Seated}
-use Rattle.order.specs.Listing.{follows, Draws, next, to, from, DrawsBelow, Adds, OnePair}
-use Rattle.order.proofs.Leading.{Meeting, met-parts, parts-met, meets-itself, meets-on, meets-beside, sync-led, same-leader}
+use Rattle.order.specs.Leaders.{meetsRow, leader, Seated}
+use Rattle.order.specs.Draws.{follows, Draws, next, to, from, DrawsBelow, Adds, OnePair}
+use Rattle.order.proofs.Leading.{Meeting, meets-parts, parts-meet, meets-itself, meets-on, meets-beside, sync-led, same-leader}
 
 -- ---- pairs are added
 
@@ -121,7 +121,7 @@ module _ (commands generations heads leaders : List ℕ) where
   lead = leader commands generations leaders
 
   abbrev Three : ℕ → ℕ → ℕ → ℕ → Type 0
-  Three c l i k = (OnePair (met commands generations l c) l c i k ⊎ OnePair (met commands generations c l) c l i k) ⊎ OnePair (follows heads (rows commands) c) c (c + 1) i k
+  Three c l i k = (OnePair (meetsRow commands generations l c) l c i k ⊎ OnePair (meetsRow commands generations c l) c l i k) ⊎ OnePair (follows heads (rows commands) c) c (c + 1) i k
 
   pub three-draws : (c l : ℕ) → l ≡ lead c → (i k : ℕ) → Three c l i k → Draws commands generations heads leaders c i k
   three-draws c l e i k (inl (inl P)) = rw (P .from, P .to, e) (from (rw e at (P .found)))
@@ -163,16 +163,16 @@ module _ (commands lengths generations heads leaders : List ℕ) (K : Keeps comm
   begins : (j : ℕ) → j < m → eqb j (getD heads j 0) ≡ isFirst lengths j
   begins j l = first-by-head H j (omega (arith, K .adds-up))
 
-  met-edge : (i k : ℕ) → met commands generations i k ≡ true → Edges i k
-  met-edge i k e = let M = met-parts commands generations i k e in meets (M .from) (M .to) (M .register) (M .sync) (M .barrier) (M .generation)
+  meets-edge : (i k : ℕ) → meetsRow commands generations i k ≡ true → Edges i k
+  meets-edge i k e = let M = meets-parts commands generations i k e in meets (M .from) (M .to) (M .register) (M .sync) (M .barrier) (M .generation)
 
   -- sound
   one-edge : (c i k : ℕ) → Draws commands generations heads leaders c i k → Edges i k
   one-edge c i k (next f) =
       let l = follows-low heads m c f in
       along l (add-one c) (sym (begins (c + 1) l) ∙ not-true _ (both (ltb (c + 1) m) _ f .1))
-  one-edge c i k (to f) = met-edge _ _ f
-  one-edge c i k (from f) = met-edge _ _ f
+  one-edge c i k (to f) = meets-edge _ _ f
+  one-edge c i k (from f) = meets-edge _ _ f
 
   pub drawn-edge : (i k : ℕ) → Drawn i k → Edges i k
   drawn-edge i k B = one-edge (B .one) i k (B .draws)
@@ -189,8 +189,8 @@ module _ (commands lengths generations heads leaders : List ℕ) (K : Keeps comm
       let M : Meeting commands generations i k = record { from = li; to = lk; register = ri; sync = sk; barrier = a; generation = e } in
       let N = sync-led commands generations leaders S k lk sk in
       let same = same-leader commands generations leaders i k M in
-      let there : Reach Drawn i (leader commands generations leaders i) = drawn i i _ li (to (rw same (parts-met commands generations (meets-on commands generations M N)))) in
-      reach-join (rw same at there) (drawn k _ k lk (from (parts-met commands generations (meets-beside commands generations N (meets-itself commands generations k lk sk)))))
+      let there : Reach Drawn i (leader commands generations leaders i) = drawn i i _ li (to (rw same (parts-meet commands generations (meets-on commands generations M N)))) in
+      reach-join (rw same at there) (drawn k _ k lk (from (parts-meet commands generations (meets-beside commands generations N (meets-itself commands generations k lk sk)))))
 
 -- ---- the list that is handed on
 

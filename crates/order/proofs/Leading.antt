@@ -16,7 +16,7 @@ use Rattle.relation.proofs.Truth.{split, clashing, same-test, both, pair}
 use Rattle.replay.specs.Step.{registers, syncs}
 use Rattle.rooms.specs.Rooms.{numberAt}
 use Rattle.order.specs.Order.{meets}
-use Rattle.order.specs.Leaders.{met, lastBelow, orLast, seat, sits, Seated, leader}
+use Rattle.order.specs.Leaders.{meetsRow, lastBelow, orLast, seat, sits, Seated, leader}
 
 -- ---- the last number below n that a test finds
 
@@ -69,8 +69,8 @@ pub record Meeting (commands generations : List ℕ) (i k : ℕ) : Type 0 where
   pub generation : numberAt generations i ≡ numberAt generations k
 
 module _ (commands generations : List ℕ) where
-  pub met-parts : (i k : ℕ) → met commands generations i k ≡ true → Meeting commands generations i k
-  met-parts i k e =
+  pub meets-parts : (i k : ℕ) → meetsRow commands generations i k ≡ true → Meeting commands generations i k
+  meets-parts i k e =
       let (li, e₁) = both _ _ e in
       let (lk, e₂) = both _ _ e₁ in
       let (r, e₃) = both _ _ e₂ in
@@ -78,8 +78,8 @@ module _ (commands generations : List ℕ) where
       let (b, g) = both _ _ e₄ in
       record { from = ltb-true _ _ li; to = ltb-true _ _ lk; register = r; sync = s; barrier = eqb-true _ _ b; generation = eqb-true _ _ g }
 
-  pub parts-met : {i k : ℕ} → Meeting commands generations i k → met commands generations i k ≡ true
-  parts-met M =
+  pub parts-meet : {i k : ℕ} → Meeting commands generations i k → meetsRow commands generations i k ≡ true
+  parts-meet M =
       pair _ _ (lt-ltb _ _ (M .from)) (pair _ _ (lt-ltb _ _ (M .to)) (pair _ _ (M .register) (pair _ _ (M .sync) (pair _ _ (eq-eqb _ _ (M .barrier)) (eq-eqb _ _ (M .generation))))))
 
   sync-registers : (c : ℕ) → syncs commands c ≡ true → registers commands c ≡ true
@@ -120,13 +120,13 @@ module _ (commands generations : List ℕ) where
     pub same-leader : (i k : ℕ) → Meeting commands generations i k → leader commands generations leaders i ≡ leader commands generations leaders k
     same-leader i k M =
         ap₂ (λ (found : ℕ → Bool) (s : ℕ). orLast found s (rows commands))
-        (fun-ext (λ j. same-test _ _ (λ e. parts-met (meets-beside M (met-parts i j e))) (λ e. parts-met (meets-on M (met-parts k j e)))))
+        (fun-ext (λ j. same-test _ _ (λ e. parts-meet (meets-beside M (meets-parts i j e))) (λ e. parts-meet (meets-on M (meets-parts k j e)))))
         (ap (λ (p : ℕ). getD leaders p 0) (rw (M .barrier, M .generation)))
 
     -- each sync meets its leader
     pub sync-led : Seated commands generations leaders (rows commands) → (k : ℕ) → k < rows commands → syncs commands k ≡ true
         → Meeting commands generations k (leader commands generations leaders k)
-    sync-led S k l s = met-parts k _ (or-last-found (met commands generations k) (sits commands generations leaders k) (rows commands) (S k l s) k l (parts-met (meets-itself k l s)))
+    sync-led S k l s = meets-parts k _ (or-last-found (meetsRow commands generations k) (sits commands generations leaders k) (rows commands) (S k l s) k l (parts-meet (meets-itself k l s)))
 
     -- one more sync takes its seat
     pub seated-more : (c : ℕ) → c < rows commands → seat commands generations c < length leaders → Seated commands generations leaders c

@@ -12,8 +12,8 @@ use Rattle.rooms.specs.Rooms.{numberAt}
 use Rattle.order.specs.Order.{meets}
 
 -- i and j are there, and i meets j
-abbrev pub met : List ℕ → List ℕ → ℕ → ℕ → Bool
-met commands generations i j = ltb i (rows commands) && (ltb j (rows commands) && meets commands (numberAt generations) i j)
+abbrev pub meetsRow : List ℕ → List ℕ → ℕ → ℕ → Bool
+meetsRow commands generations i j = ltb i (rows commands) && (ltb j (rows commands) && meets commands (numberAt generations) i j)
 
 -- the last number below n that a test finds, or `none`
 unfoldable pub lastBelow : (ℕ → Bool) → ℕ → ℕ → ℕ
@@ -35,7 +35,7 @@ module _ (commands generations : List ℕ) where
 
   -- the last sync that c meets, or the number of rows
   abbrev pub lastMet : ℕ → ℕ
-  lastMet c = lastBelow (met commands generations c) (rows commands) (rows commands)
+  lastMet c = lastBelow (meetsRow commands generations c) (rows commands) (rows commands)
 
   module _ (leaders : List ℕ) where
     -- who sits there
@@ -48,4 +48,4 @@ module _ (commands generations : List ℕ) where
 
     -- who sits in c's seat, if c meets it; where another barrier or generation has the seat, the last sync that c meets; else the number of rows
     abbrev pub leader : ℕ → ℕ
-    leader c = orLast (met commands generations c) (sits c) (rows commands)
+    leader c = orLast (meetsRow commands generations c) (sits c) (rows commands)

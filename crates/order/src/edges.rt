@@ -7,8 +7,8 @@ ghost use Rattle.tables.specs.Limits.{mostRows};
 ghost use Rattle.tables.specs.Rows.{rows, name};
 ghost use Rattle.rooms.specs.Rooms.{numberAt, TwoCommands};
 ghost use Rattle.order.specs.Order.{meets};
-ghost use Rattle.order.specs.Leaders.{met};
-ghost use Rattle.order.specs.Listing.{follows};
+ghost use Rattle.order.specs.Leaders.{meetsRow};
+ghost use Rattle.order.specs.Draws.{follows};
 use tables::Table;
 
 // Have i and j the same barrier, or the same address?
@@ -32,9 +32,9 @@ fn meets(commands: &[u32], generations: &[u32], i: usize, j: usize) -> bool
 }
 
 // The same of any two numbers: those that are no rows do not meet.
-pub(crate) fn met(commands: &[u32], generations: &[u32], i: usize, j: usize) -> bool
+pub(crate) fn meets_row(commands: &[u32], generations: &[u32], i: usize, j: usize) -> bool
     requires { ⌜ rows (now commands) ≤ length (now generations) ⌝ }
-    ensures { λ r. ⌜ r ≡ met (now (commands .entry)) (now (generations .entry)) i j ⌝ }
+    ensures { λ r. ⌜ r ≡ meetsRow (now (commands .entry)) (now (generations .entry)) i j ⌝ }
 {
     let m = commands.len() / 3;
     if m <= i {

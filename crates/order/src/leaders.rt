@@ -6,7 +6,7 @@ ghost use Rattle.tables.specs.Limits.{mostRows};
 ghost use Rattle.tables.specs.Rows.{rows};
 ghost use Rattle.rooms.specs.Rooms.{OneCommand};
 ghost use Rattle.order.specs.Leaders.{seats, seat, lastMet, Seated, leader};
-use crate::edges::met;
+use crate::edges::meets_row;
 use tables::Table;
 
 // A seat for each barrier and each generation that a review can have.
@@ -60,7 +60,7 @@ fn last_met(commands: &[u32], generations: &[u32], c: usize) -> usize
     let mut j = m;
     while 0 < j {
         j -= 1;
-        if met(commands, generations, c, j) {
+        if meets_row(commands, generations, c, j) {
             return j;
         }
     }
@@ -79,7 +79,7 @@ pub(crate) fn leader(
 {
     let at = seat(commands, generations, c);
     let sits = wide_seat(leaders[at]);
-    if met(commands, generations, c, sits) {
+    if meets_row(commands, generations, c, sits) {
         return sits;
     }
     let m = commands.len() / 3;

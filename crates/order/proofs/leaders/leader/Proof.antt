@@ -18,7 +18,7 @@ returns c =
     let w = c .before .before in
     let a = w .before .before .before .before .before .args in
     let e = sat (a .leaders .now) (w .before .before .seat .ensures .0) (w .wide-seat .ensures) in
-    e ∙ sym (or-here _ _ _ (rw e at (sym (c .before .met .ensures) ∙ c .if1 .taken)))
+    e ∙ sym (or-here _ _ _ (rw e at (sym (c .before .meets-row .ensures) ∙ c .if1 .taken)))
 
 returns-2 : tie.Need-returns-2
 returns-2 c =
@@ -26,14 +26,14 @@ returns-2 c =
     let a = w .before .before .before .before .before .args in
     let e = sat (a .leaders .now) (w .before .before .seat .ensures .0) (w .wide-seat .ensures) in
     c .last-met .ensures
-    ∙ sym (or-last _ _ _ (rw e at (sym (c .before .before .before .met .ensures) ∙ c .before .before .if1 .left)) (rw e at (c .before .if2 .taken)))
+    ∙ sym (or-last _ _ _ (rw e at (sym (c .before .before .before .meets-row .ensures) ∙ c .before .before .if1 .left)) (rw e at (c .before .if2 .taken)))
 
 returns-3 : tie.Need-returns-3
 returns-3 c =
     let w = c .before .before .before in
     let a = w .before .before .before .before .before .args in
     let e = sat (a .leaders .now) (w .before .before .seat .ensures .0) (w .wide-seat .ensures) in
-    sym (or-none _ _ _ (rw e at (sym (c .before .before .met .ensures) ∙ c .before .if1 .left)) (rw e at (c .if2 .left)))
+    sym (or-none _ _ _ (rw e at (sym (c .before .before .meets-row .ensures) ∙ c .before .if1 .left)) (rw e at (c .if2 .left)))
 
 pub leader-spec : {M : Type 1} → statement M
 unfolding mostRows barriers

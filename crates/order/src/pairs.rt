@@ -6,9 +6,9 @@ ghost use lib.ListN.{length};
 ghost use Rattle.tables.specs.Limits.{mostRows};
 ghost use Rattle.tables.specs.Rows.{rows};
 ghost use Rattle.rooms.specs.Rooms.{OneCommand};
-ghost use Rattle.order.specs.Listing.{Draws, DrawsBelow, Adds, OnePair};
+ghost use Rattle.order.specs.Draws.{Draws, DrawsBelow, Adds, OnePair};
 use crate::edges::follows;
-use crate::edges::met;
+use crate::edges::meets_row;
 use crate::leaders::SEATS;
 use crate::leaders::leader;
 use tables::Table;
@@ -44,8 +44,8 @@ fn put_command(
     ensures { λ r. ⌜ Adds 3 (Draws (now (commands .entry)) (now (generations .entry)) (now (heads .entry)) (now (leaders .entry)) c) (now (pairs .entry)) (now (pairs .exit)) n r ⌝ }
 {
     let l = leader(commands, generations, leaders, c);
-    let from = put_pair(pairs, n, met(commands, generations, l, c), l, c);
-    let to = put_pair(pairs, from, met(commands, generations, c, l), c, l);
+    let from = put_pair(pairs, n, meets_row(commands, generations, l, c), l, c);
+    let to = put_pair(pairs, from, meets_row(commands, generations, c, l), c, l);
     put_pair(pairs, to, follows(heads, commands.len() / 3, c), c, c + 1)
 }
 

@@ -6,10 +6,10 @@ use native.Mathlib.Omega.{arith}
 use borrow.Author.Needs.{needs}
 use Rattle.tables.specs.Limits.{mostRows}
 use Rattle.tables.specs.Rows.{rows}
-use Rattle.order.proofs.Leading.{Meeting, met-parts}
+use Rattle.order.proofs.Leading.{Meeting, meets-parts}
 use Rattle.order.proofs.Drawing.{adds-join, adds-map, follows-low, three-draws, draws-three}
-use Rattle.order.proofs.listing.put_command.Statement.{statement}
-use Rattle.order.proofs.listing.put_command.Tie as tie
+use Rattle.order.proofs.pairs.put_command.Statement.{statement}
+use Rattle.order.proofs.pairs.put_command.Tie as tie
 
 rows-few : {commands generations : List ℕ} {i k : ℕ} → rows commands ≤ mostRows → Meeting commands generations i k → (i < mostRows) × (k < mostRows)
 rows-few few M = (omega (arith, M .from), omega (arith, M .to))
@@ -17,13 +17,13 @@ rows-few few M = (omega (arith, M .from), omega (arith, M .to))
 put-pair-requires : tie.Need-put-pair-requires
 put-pair-requires c κs =
     let s = c .before .before .before .before .before .before in
-    (omega (arith, s .pre .1), λ t. rows-few (s .pre .0) (met-parts (s .args .commands .now) (s .args .generations .now) _ _ (sym (c .met .ensures) ∙ t)))
+    (omega (arith, s .pre .1), λ t. rows-few (s .pre .0) (meets-parts (s .args .commands .now) (s .args .generations .now) _ _ (sym (c .meets-row .ensures) ∙ t)))
 
 put-pair-requires-2 : tie.Need-put-pair-requires-2
 put-pair-requires-2 c κs =
     let s = c .before .before .before .before .before .before .before .before .before .before .before in (
       omega (arith, s .pre .1, c .before .before .before .before .put-pair .ensures .few, c .before .before .before .before .put-pair .ensures .len),
-      λ t. rows-few (s .pre .0) (met-parts (s .args .commands .now) (s .args .generations .now) _ _ (sym (c .met2 .ensures) ∙ t)),
+      λ t. rows-few (s .pre .0) (meets-parts (s .args .commands .now) (s .args .generations .now) _ _ (sym (c .meets-row2 .ensures) ∙ t)),
     )
 
 put-pair-requires-3 : tie.Need-put-pair-requires-3
@@ -46,7 +46,7 @@ returns c =
     (three-draws (a .commands .now) (a .generations .now) (a .heads .now) (a .leaders .now) (a .c) (l .result) (l .ensures))
     (draws-three (a .commands .now) (a .generations .now) (a .heads .now) (a .leaders .now) (a .c) (l .result) (l .ensures))
     (adds-join
-    (adds-join (rw (c .before .before .before .before .before .before .before .before .before .before .before .before .before .met .ensures) at (c .before .before .before .before .before .before .before .before .before .before .before .before .put-pair .ensures)) (rw (c .before .before .before .before .before .before .before .before .met2 .ensures) at (c .before .before .before .before .before .before .before .put-pair2 .ensures)))
+    (adds-join (rw (c .before .before .before .before .before .before .before .before .before .before .before .before .before .meets-row .ensures) at (c .before .before .before .before .before .before .before .before .before .before .before .before .put-pair .ensures)) (rw (c .before .before .before .before .before .before .before .before .meets-row2 .ensures) at (c .before .before .before .before .before .before .before .put-pair2 .ensures)))
     (rw (c .before .before .before .follows .ensures) at (c .before .before .put-pair3 .ensures)))
 
 pub put-command-spec : {M : Type 1} → statement M

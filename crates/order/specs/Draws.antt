@@ -8,7 +8,7 @@ use lib.Dec.{eqb, ltb}
 use lib.ListN.{length, getD}
 use Rattle.tables.specs.Rows.{rows}
 use Rattle.sweeps.specs.Pairs.{PairBetween}
-use Rattle.order.specs.Leaders.{met, leader}
+use Rattle.order.specs.Leaders.{meetsRow, leader}
 
 -- the row after c is there, and is not where its thread begins
 abbrev pub follows : List ℕ → ℕ → ℕ → Bool
@@ -17,9 +17,9 @@ follows heads m c = ltb (c + 1) m && not (eqb (c + 1) (getD heads (c + 1) 0))
 -- what is listed for command c: its thread's next command, and its leader, both ways as far as they are edges
 pub data Draws (commands generations heads leaders : List ℕ) (c : ℕ) : ℕ → ℕ → Type 0 where
   next : follows heads (rows commands) c ≡ true → Draws commands generations heads leaders c c (c + 1)
-  to : met commands generations c (leader commands generations leaders c) ≡ true
+  to : meetsRow commands generations c (leader commands generations leaders c) ≡ true
       → Draws commands generations heads leaders c c (leader commands generations leaders c)
-  from : met commands generations (leader commands generations leaders c) c ≡ true
+  from : meetsRow commands generations (leader commands generations leaders c) c ≡ true
       → Draws commands generations heads leaders c (leader commands generations leaders c) c
 
 -- what is listed for the commands below n

@@ -5,8 +5,8 @@ use mathlib.Core.Bool.{and-false}
 use borrow.Author.Tests.{lt-ltb, le-ltb}
 use Rattle.tables.specs.Rows.{rows}
 use borrow.Author.Needs.{needs}
-use Rattle.order.proofs.edges.met.Statement.{statement}
-use Rattle.order.proofs.edges.met.Tie as tie
+use Rattle.order.proofs.edges.meets_row.Statement.{statement}
+use Rattle.order.proofs.edges.meets_row.Tie as tie
 
 returns : tie.Need-returns
 returns c = sym (rw (le-ltb _ _ (c .if1 .taken)))
@@ -17,6 +17,6 @@ returns-2 c = let a = c .before .before .before .before .args in sym (rw (le-ltb
 returns-3 : tie.Need-returns-3
 returns-3 c = c .meets .ensures ∙ sym (rw (lt-ltb _ _ (c .before .before .if1 .left), lt-ltb _ _ (c .before .if2 .left)))
 
-pub met-spec : {M : Type 1} → statement M
-met-spec =
+pub meets-row-spec : {M : Type 1} → statement M
+meets-row-spec =
     tie.close (tie.spec returns returns-2 (λ c κs. search needs) returns-3)

@@ -5,11 +5,11 @@ use lib.ListN.{length}
 use native.Mathlib.Omega.{arith}
 use Rattle.tables.specs.Limits.{mostRows}
 use Rattle.tables.specs.Rows.{rows}
-use Rattle.order.specs.Listing.{DrawsBelow, Adds}
+use Rattle.order.specs.Draws.{DrawsBelow, Adds}
 use Rattle.order.proofs.Drawing.{adds-none, adds-join, adds-map, below-none, below-more, more-below}
 use borrow.Author.Needs.{needs}
-use Rattle.order.proofs.listing.put_pairs.Statement.{statement}
-use Rattle.order.proofs.listing.put_pairs.Tie as tie
+use Rattle.order.proofs.pairs.put_pairs.Statement.{statement}
+use Rattle.order.proofs.pairs.put_pairs.Tie as tie
 
 abbrev Inv-loop : tie.InvT-loop
 Inv-loop commands generations heads leaders pairs₀ parts₀ m n₀ p₀ c₀ pairs parts n p c = (c ≤ rows commands) × (p < length parts) × (length parts ≡ length parts₀) × Adds (3 * c) (DrawsBelow commands generations heads leaders c) pairs₀ pairs 0 n

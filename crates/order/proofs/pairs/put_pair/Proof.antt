@@ -6,8 +6,8 @@ use borrow.Author.Tests.{not-true, not-false}
 use Rattle.tables.specs.Limits.{mostRows}
 use Rattle.order.proofs.Drawing.{adds-not, adds-one}
 use borrow.Author.Needs.{needs}
-use Rattle.order.proofs.listing.put_pair.Statement.{statement}
-use Rattle.order.proofs.listing.put_pair.Tie as tie
+use Rattle.order.proofs.pairs.put_pair.Statement.{statement}
+use Rattle.order.proofs.pairs.put_pair.Tie as tie
 
 returns : tie.Need-returns
 returns c = adds-not (not-true _ (c .if1 .taken))
