@@ -6,6 +6,7 @@ use crate::leaders::SEATS;
 use crate::leaders::choose;
 use crate::pairs::NUMBERS;
 use crate::pairs::put_pairs;
+use rooms::admits;
 use rooms::refuse;
 use sweeps::put_reach;
 use tables::Table;
@@ -44,9 +45,8 @@ pub fn put_order(
 ) -> Verdict
     ensures { λ r. ⌜ Orders (now (commands .entry)) (now (lengths .entry)) (now (generations .entry)) (now (relation .entry)) r (now (relation .exit)) ⌝ }
 {
-    let refusal = refuse(commands, lengths, relation.len(), generations.len());
-    if refusal.number().number != 0 {
-        return refusal;
+    if !admits(commands, lengths, relation.len(), generations.len()) {
+        return refuse(commands, lengths, relation.len(), generations.len());
     }
     put_reached(commands, lengths, generations, relation);
     Verdict::Clean

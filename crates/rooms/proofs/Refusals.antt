@@ -76,3 +76,10 @@ module _ (commands lengths : List ℕ) (relation generations : ℕ) where
       let (a, b) = big-rooms (ltb relation (words (rows commands))) (ltb generations (rows commands)) q in
       record { checks = z; keeps = passes-zero commands lengths z; relation-fits = ltb-false _ _ a; generations-fit = ltb-false _ _ b })
       (λ (n : checked commands lengths .number ≢ 0). absurd (n (rw (ne-eqb _ _ n) at e)))
+
+  -- what is not refused is told 0
+  pub refused-none : refused commands lengths relation generations .number ≡ 0 → tell 0 0 0 ≡ refused commands lengths relation generations
+  unfolding refused
+  refused-none e =
+      let A = admitted e in
+      sym (rw (eq-eqb _ _ (A .checks), le-ltb relation (words (rows commands)) (A .relation-fits), le-ltb generations (rows commands) (A .generations-fit)))

@@ -1,7 +1,9 @@
--- Any two answers that meet the contract of `refuse` are equal. Assumes nothing.
+-- Any two answers that meet the contract of `refuse`, or of `admits`, are equal. Assumes nothing.
 use mathlib.Core.Path.{_≡_, sym, _∙_}
+use mathlib.Core.Bool.{Bool}
 use mathlib.Core.List.{List}
 use Prim.Native.Nat.{ℕ}
+use lib.Dec.{eqb}
 use Rattle.tables.specs.Verdicts.{numbered}
 use Rattle.tables.specs.declared.verdict.Verdict.{Verdict}
 use Rattle.tables.proofs.Verdicts.{numbered-one}
@@ -10,3 +12,7 @@ use Rattle.rooms.specs.Refusals.{refused}
 pub refuse-one : (commands lengths : List ℕ) (relation generations : ℕ) (a b : Verdict) → numbered a ≡ refused commands lengths relation generations
     → numbered b ≡ refused commands lengths relation generations → a ≡ b
 refuse-one commands lengths relation generations a b A B = numbered-one a b (A ∙ sym B)
+
+pub admits-one : (commands lengths : List ℕ) (relation generations : ℕ) (a b : Bool) → a ≡ eqb (refused commands lengths relation generations .number) 0
+    → b ≡ eqb (refused commands lengths relation generations .number) 0 → a ≡ b
+admits-one commands lengths relation generations a b A B = A ∙ sym B

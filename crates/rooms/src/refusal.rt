@@ -1,5 +1,6 @@
 // Refusals 1 to 4, before a room is touched.
 ghost use mathlib.Core.Path.{_≡_};
+ghost use lib.Dec.{eqb};
 ghost use Rattle.tables.specs.Verdicts.{numbered};
 ghost use Rattle.rooms.specs.Refusals.{refused};
 use relation::table_words;
@@ -22,4 +23,14 @@ pub fn refuse(commands: &[u32], lengths: &[u32], relation: usize, generations: u
         return Verdict::ShortRoom(1);
     }
     Verdict::Clean
+}
+
+// Are tables and rooms admitted, which is to say not refused? Callers that only go on, or not, are spared the verdict.
+pub fn admits(commands: &[u32], lengths: &[u32], relation: usize, generations: usize) -> bool
+    ensures { λ r. ⌜ r ≡ eqb (refused (now (commands .entry)) (now (lengths .entry)) relation generations .number) 0 ⌝ }
+{
+    refuse(commands, lengths, relation, generations)
+        .number()
+        .number
+        == 0
 }

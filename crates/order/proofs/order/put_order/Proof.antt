@@ -1,41 +1,31 @@
 -- `put_order` meets its contract: refused before the room is touched, or what is listed reaches as far as happens-before. Assumes nothing.
-use mathlib.Core.Path.{_≡_, refl, sym, _∙_}
-use mathlib.Core.List.{List}
-use Prim.Native.Nat.{ℕ}
-use lib.ListN.{length}
-use Rattle.tables.proofs.Verdicts.{zero-told}
-use Rattle.replay.proofs.Refusals.{number-is, said-zero}
-use Rattle.rooms.specs.Refusals.{refused}
-use Rattle.rooms.specs.Rooms.{Roomy}
-use Rattle.rooms.proofs.Refusals.{admitted}
+use mathlib.Core.Path.{_≡_, refl, sym, ap, _∙_}
+use borrow.Author.Tests.{eqb-true, eqb-false, not-true, not-false}
+use Rattle.tables.specs.declared.verdict.Told.{Told}
+use Rattle.rooms.proofs.Refusals.{admitted, refused-none}
 use borrow.Author.Needs.{needs}
 use Rattle.order.proofs.order.put_order.Statement.{statement}
 use Rattle.order.proofs.order.put_order.Tie as tie
 
-roomy : (commands lengths generations relation : List ℕ) → refused commands lengths (length relation) (length generations) .number ≡ 0
-    → Roomy commands lengths generations relation
-roomy commands lengths generations relation e =
-    let A = admitted _ _ _ _ e in record { keeps = A .keeps; generations-fit = A .generations-fit; relation-fits = A .relation-fits }
-
 returns : tie.Need-returns
 returns c =
-    let n = c .before .before in
-    let k = n .before .refuse in
-    record { verdict = k .ensures; kept = λ _. refl; holds = λ e. absurd (c .if1 .taken (number-is (k .result) (n .number .ensures) ∙ e)) }
+    let k = c .refuse .ensures in
+    record {
+      verdict = k;
+      kept = λ _. refl;
+      holds = λ e. absurd (eqb-false _ _ (sym (c .before .before .admits .ensures) ∙ not-true _ (c .before .if1 .taken)) (ap (λ (t : Told). t .number) (sym k) ∙ e));
+    }
 
 put-reached-requires : tie.Need-put-reached-requires
 put-reached-requires c κs =
-    let n = c .before .before .before in
-    let k = n .before .refuse in
-    roomy _ _ _ _ (said-zero (k .result) (n .number .ensures) (k .ensures) (c .before .if1 .left))
+    let A = admitted _ _ _ _ (eqb-true _ _ (sym (c .before .before .admits .ensures) ∙ not-false _ (c .before .if1 .left))) in
+    record { keeps = A .keeps; generations-fit = A .generations-fit; relation-fits = A .relation-fits }
 
 returns-2 : tie.Need-returns-2
 returns-2 c =
     let i = c .before .before .before .before in
-    let n = i .before .before in
-    let k = n .before .refuse in
     record {
-      verdict = sym (zero-told (k .result) (sym (number-is (k .result) (n .number .ensures)) ∙ i .if1 .left)) ∙ k .ensures;
+      verdict = refused-none _ _ _ _ (eqb-true _ _ (sym (i .before .admits .ensures) ∙ not-false _ (i .if1 .left)));
       kept = λ m. absurd (m refl);
       holds = λ _. c .before .before .put-reached .ensures;
     }
