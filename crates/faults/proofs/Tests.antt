@@ -1,22 +1,23 @@
--- What passes the test of range; and by the heads of tables that pass, the tests find exactly the faults. Assumes nothing.
-use mathlib.Core.Path.{_≡_, sym, ap, _∙_}
+-- What the test of a range says, and what is found; by the heads of tables that pass, the tests find exactly the faults. Assumes nothing.
+use mathlib.Core.Path.{_≡_, sym, _∙_}
 use mathlib.Core.Logic.{by-cases, _≢_}
-use mathlib.Core.Bool.{Bool, true, not, _||_}
+use mathlib.Core.Bool.{true}
 use mathlib.Core.List.{List}
-use Prim.Native.Nat.{ℕ, _-_, _≤_, _<_}
+use Prim.Native.Nat.{ℕ, _+_, _≤_, _<_}
 use native.Mathlib.Decide.{ℕ-discrete}
 use native.Mathlib.Omega.{arith}
 use lib.Dec.{eqb, leb, ltb}
 use lib.ListN.{length}
-use borrow.Author.Tests.{leb-true, ltb-true, le-leb, lt-leb, lt-ltb, eq-eqb, ne-eqb}
+use borrow.Author.Tests.{leb-true, ltb-true, eqb-true, le-leb, lt-leb, lt-ltb, eq-eqb, ne-eqb}
 use Rattle.tables.specs.Limits.{mostRows}
-use Rattle.tables.specs.Rows.{rows, total}
+use Rattle.tables.specs.Rows.{rows, kind, name, arrive, total}
 use Rattle.tables.specs.Rules.{Keeps}
 use Rattle.tables.specs.Heads.{Headed}
 use Rattle.tables.proofs.Rows.{home}
 use Rattle.tables.proofs.Filling.{first-by-head, same-by-head}
 use Rattle.relation.specs.Table.{related}
 use Rattle.relation.proofs.Truth.{both}
+use Rattle.replay.specs.Step.{registers}
 use Rattle.rooms.specs.Rooms.{numberAt}
 use Rattle.faults.specs.declared.faults.Fault.{Fault}
 use Rattle.faults.specs.declared.faults.Fault.the-variants.{Reuse, Race}
@@ -29,6 +30,34 @@ both-there m n i j e =
     let (b, e₂) = both (leb m n) _ e₁ in
     let (x, y) = both (ltb i m) (ltb j m) e₂ in
     record { few = leb-true _ _ a; whole = leb-true _ _ b; from = ltb-true _ _ x; to = ltb-true _ _ y }
+
+-- ---- what is found pairs two commands as the definitions say
+
+module _ (heads commands generations relation : List ℕ) (i j : ℕ) where
+  pub found-reuse : isFault heads commands generations relation Reuse i j ≡ true
+      → (registers commands i ≡ true) × (registers commands j ≡ true) × (name commands j ≡ name commands i) × (numberAt generations j + 1 ≡ numberAt generations i)
+  unfolding isFault reuseBy succeeds
+  found-reuse e =
+      let (_, e₁) = both (bothThere (rows commands) (length generations) i j) _ e in
+      let (s, _) = both (succeeds commands (numberAt generations) j i) _ e₁ in
+      let (rj, s₁) = both (registers commands j) _ s in
+      let (ri, s₂) = both (registers commands i) _ s₁ in
+      let (a, b) = both (eqb (name commands j) (name commands i)) _ s₂ in
+      (ri, rj, eqb-true _ _ a, eqb-true _ _ b)
+
+  pub found-race : isFault heads commands generations relation Race i j ≡ true
+      → (i < j) × (ltb (kind commands i) arrive ≡ true) × (ltb (kind commands j) arrive ≡ true) × (name commands i ≡ name commands j)
+  unfolding isFault raceBy conflict
+  found-race e =
+      let (_, e₁) = both (bothThere (rows commands) (length generations) i j) _ e in
+      let (l, e₂) = both (ltb i j) _ e₁ in
+      let (k, _) = both (conflict commands i j) _ e₂ in
+      let (x, k₁) = both (ltb (kind commands i) arrive) _ k in
+      let (y, k₂) = both (ltb (kind commands j) arrive) _ k₁ in
+      let (a, _) = both (eqb (name commands i) (name commands j)) _ k₂ in
+      (ltb-true i j l, x, y, eqb-true _ _ a)
+
+-- ---- by the heads of tables that pass
 
 -- a number that a bound does not pass is at most the bound exactly when it is the bound
 at-most : (a b : ℕ) → b ≤ a → leb a b ≡ eqb a b

@@ -5,17 +5,15 @@ use mathlib.Core.List.{List, []}
 use Prim.Native.Nat.{ℕ}
 use lib.ListN.{length}
 use borrow.Author.Tests.{eq-eqb, ne-eqb}
-use Rattle.tables.specs.Rows.{rows}
 use Rattle.tables.specs.Verdicts.{numbered}
 use Rattle.tables.specs.declared.verdict.Told.{Told}
 use Rattle.tables.specs.declared.verdict.Verdict.{Verdict}
-use Rattle.relation.specs.Table.{related}
 use Rattle.replay.proofs.Refusals.{or-first, or-second}
 use Rattle.sheet.specs.Sheet.{sheetOf}
 use Rattle.findings.specs.declared.finding.Finding.{Finding}
 use Rattle.rooms.specs.Refusals.{refused}
-use Rattle.rooms.specs.Rooms.{numberAt}
-use Rattle.findings.specs.Findings.{Looked, Finds}
+use Rattle.findings.specs.Findings.{Finds}
+use Rattle.findings.specs.Searches.{LookedOver}
 
 module _ (commands lengths generations relation : List ℕ) where
   abbrev told : Told
@@ -27,6 +25,6 @@ module _ (commands lengths generations relation : List ℕ) where
       let m : told .number ≢ 0 = λ z. n (ap (λ (t : Told). t .number) e ∙ z) in
       record { verdict = e ∙ or-first told _ m; sheet = rw (ne-eqb (told .number) 0 m) }
 
-  pub finds-looked : told .number ≡ 0 → {r : Finding} → Looked commands lengths (numberAt generations) (related relation (rows commands)) r
+  pub finds-looked : told .number ≡ 0 → {r : Finding} → LookedOver commands lengths generations relation r
       → Finds commands lengths generations relation r
   finds-looked pass L = record { verdict = L .verdict ∙ or-second told _ pass; sheet = L .sheet ∙ rw (eq-eqb (told .number) 0 pass) }

@@ -7,25 +7,22 @@ use Prim.Native.Nat.{ℕ, zero, suc, _+_, _%_, _≤_, _<_, min}
 use native.Mathlib.Decide.{ℕ-discrete, decLt}
 use native.Mathlib.Numerals.{add-one}
 use native.Mathlib.Omega.{arith}
-use lib.Dec.{eqb, ltb}
 use lib.ListN.{length, getD, set, replicate, length-set, length-replicate, getD-replicate}
 use lib.Seq.{getD-set-same, getD-set-other}
-use borrow.Author.Tests.{eqb-true, le-ltb}
 use Rattle.tables.specs.Limits.{mostRows, barriers}
-use Rattle.tables.specs.Rules.{Keeps}
-use Rattle.tables.specs.Rows.{rows, kind, name, arrive}
-use Rattle.relation.proofs.Truth.{both, isnt, clashing}
-use Rattle.replay.specs.Step.{registers}
-use Rattle.rooms.specs.Rooms.{numberAt}
+use Rattle.tables.specs.Rows.{rows}
+use Rattle.relation.proofs.Truth.{isnt, clashing}
 use Rattle.sheet.specs.declared.Pair.{Pair}
 use Rattle.sheet.specs.declared.Sheet.{Sheet}
 use Rattle.sheet.specs.Sheet.{addAll}
 use Rattle.sheet.proofs.Sheets.{addAll-total}
 use Rattle.faults.specs.declared.faults.Fault.{Fault}
 use Rattle.faults.specs.declared.faults.Fault.the-variants.{Reuse, Race}
-use Rattle.faults.specs.Faults.{succeeds, reuse, conflict, race, faulty, pairOf, alongRow}
+use Rattle.faults.specs.Faults.{pairOf, alongRow}
+use Rattle.faults.specs.Tests.{isFault}
 use Rattle.findings.specs.Lists.{listed, key, wanted, Next, Lists, Candidate, Unlisted}
-use Rattle.findings.proofs.Searching.{along-none, along-found, along-passed, row-length}
+use Rattle.faults.proofs.Searched.{along-none, along-found, along-passed, row-length}
+use Rattle.faults.proofs.Tests.{found-reuse, found-race}
 
 pub key-small : (f : Fault) (commands generations : List ℕ) (c : ℕ) → key f commands generations c < mostRows
 unfolding mostRows
@@ -34,15 +31,15 @@ key-small Race commands generations c = omega arith
 
 -- ---- the making
 
-pub unlisted : {commands lengths generations : List ℕ} → Keeps commands lengths → rows commands ≤ length generations
+pub unlisted : (commands generations : List ℕ) → rows commands ≤ mostRows → rows commands ≤ length generations
     → Unlisted commands generations (replicate mostRows mostRows) (replicate mostRows mostRows)
-unlisted K whole =
+unlisted commands generations few whole =
     record {
-      few = K .few-rows;
+      few = few;
       whole = whole;
       fronts-fit = length-replicate {A = ℕ} mostRows mostRows;
       nexts-fit = length-replicate {A = ℕ} mostRows mostRows;
-      empty = λ k l. rw (getD-replicate {A = ℕ} mostRows k mostRows 0 l) (K .few-rows);
+      empty = λ k l. rw (getD-replicate {A = ℕ} mostRows k mostRows 0 l) few;
     }
 
 module _ {f : Fault} {commands generations fronts nexts : List ℕ} where
@@ -114,53 +111,42 @@ module _ (f : Fault) (commands generations fronts nexts : List ℕ) (d : ℕ) (L
 -- ---- candidates
 
 -- a fault pairs commands that are listed, and the inner one is in the list that the outer one wants
-faulty-listed : (f : Fault) (commands lengths generations : List ℕ) (ρ : ℕ → ℕ → Bool) (i j : ℕ)
-    → faulty commands lengths (numberAt generations) ρ f i j ≡ true
+found-listed : (f : Fault) (heads commands generations relation : List ℕ) (i j : ℕ) → isFault heads commands generations relation f i j ≡ true
     → (listed f commands i ≡ true) × (listed f commands j ≡ true) × (key f commands generations j ≡ wanted f commands generations i)
-unfolding reuse succeeds race conflict mostRows barriers
-faulty-listed Reuse commands lengths generations ρ i j e =
-    let (s, _) = both (succeeds commands (numberAt generations) j i) _ e in
-    let (rj, s₁) = both (registers commands j) _ s in
-    let (ri, s₂) = both (registers commands i) _ s₁ in
-    let (a, b) = both (eqb (name commands j) (name commands i)) _ s₂ in
-    let p = eqb-true (name commands j) (name commands i) a in
-    let q = eqb-true (numberAt generations j + 1) (numberAt generations i) b in
+unfolding mostRows barriers
+found-listed Reuse heads commands generations relation i j e =
+    let (ri, rj, p, q) = found-reuse heads commands generations relation i j e in
     (ri, rj, omega arith)
-faulty-listed Race commands lengths generations ρ i j e =
-    let (_, e₁) = both (ltb i j) _ e in
-    let (k, _) = both (conflict commands i j) _ e₁ in
-    let (x, k₁) = both (ltb (kind commands i) arrive) _ k in
-    let (y, k₂) = both (ltb (kind commands j) arrive) _ k₁ in
-    let (a, _) = both (eqb (name commands i) (name commands j)) _ k₂ in
-    (x, y, ap (λ (n : ℕ). n % mostRows) (sym (eqb-true (name commands i) (name commands j) a)))
+found-listed Race heads commands generations relation i j e =
+    let (_, x, y, p) = found-race heads commands generations relation i j e in
+    (x, y, ap (λ (n : ℕ). n % mostRows) (sym p))
 
 module _ {commands generations : List ℕ} {i a n : ℕ} where
   pub candidate : {f : Fault} → Next f commands generations (wanted f commands generations i) a n → Candidate f commands generations i a n
   candidate {f} X =
       record {
         here = X .here;
-        none = λ lengths ρ j h lj l.
-            isnt _ (λ e. let (_, s, k) = faulty-listed f commands lengths generations ρ i j e in X .none j h lj l s k);
+        none = λ heads relation j h lj l.
+            isnt _ (λ e. let (_, s, k) = found-listed f heads commands generations relation i j e in X .none j h lj l s k);
       }
 
   pub candidate-none : {f : Fault} → listed f commands i ≡ false → rows commands ≤ n → Candidate f commands generations i a n
   candidate-none {f} out h =
       record {
         here = λ l. absurd (omega arith);
-        none = λ lengths ρ j _ _ _. isnt _ (λ e. clashing (faulty-listed f commands lengths generations ρ i j e .0) out);
+        none = λ heads relation j _ _ _. isnt _ (λ e. clashing (found-listed f heads commands generations relation i j e .0) out);
       }
 
   -- races go upward: no number up to i is paired with it
   pub candidate-above : Next Race commands generations (wanted Race commands generations i) (i + 1) n → Candidate Race commands generations i a n
-  unfolding race
   candidate-above X =
       record {
         here = X .here;
-        none = λ lengths ρ j h lj l.
+        none = λ heads relation j h lj l.
             by-cases (decLt i j)
             (λ (m : i < j).
-            isnt _ (λ e. let (_, s, k) = faulty-listed Race commands lengths generations ρ i j e in X .none j (omega arith) lj l s k))
-            (λ (m : ¬ (i < j)). simp (le-ltb i j (omega arith)));
+            isnt _ (λ e. let (_, s, k) = found-listed Race heads commands generations relation i j e in X .none j (omega arith) lj l s k))
+            (λ (m : ¬ (i < j)). isnt _ (λ e. m (found-race heads commands generations relation i j e .0)));
       }
 
 -- ---- the walk
@@ -172,13 +158,13 @@ skip found to a (suc b) l n =
     by-cases (ℕ-discrete a (suc b)) (λ (q : a ≡ suc b). rw q)
     (λ (m : a ≢ suc b). along-passed found to b (n b (omega arith) (omega arith)) ∙ skip found to a b (omega arith) (λ y h k. n y h (omega arith)))
 
-module _ (f : Fault) (commands lengths generations : List ℕ) (ρ : ℕ → ℕ → Bool) (i : ℕ) where
+module _ (heads commands generations relation : List ℕ) (f : Fault) (i : ℕ) where
   abbrev found : ℕ → Bool
-  found = faulty commands lengths (numberAt generations) ρ f i
+  found = isFault heads commands generations relation f i
 
   -- the pairs of i with the numbers below j
   abbrev pub below : ℕ → List Pair
-  below j = alongRow (faulty commands lengths (numberAt generations) ρ f i) (pairOf f i) (min j (rows commands))
+  below j = alongRow (isFault heads commands generations relation f i) (pairOf f i) (min j (rows commands))
 
   pub below-few : (j : ℕ) → length (below j) ≤ j
   below-few j = omega (arith, row-length found (pairOf f i) (min j (rows commands)))
@@ -192,7 +178,7 @@ module _ (f : Fault) (commands lengths generations : List ℕ) (ρ : ℕ → ℕ
 
   -- up to the next candidate
   walked : (a n : ℕ) → a ≤ n → a ≤ rows commands → Candidate f commands generations i a n → below n ≡ alongRow found (pairOf f i) a
-  walked a n low high C = skip found (pairOf f i) a (min n (rows commands)) (omega arith) (λ y h l. C .none lengths ρ y h (omega arith) (omega arith))
+  walked a n low high C = skip found (pairOf f i) a (min n (rows commands)) (omega arith) (λ y h l. C .none heads relation y h (omega arith) (omega arith))
 
   pub walk-begun : {n : ℕ} → Candidate f commands generations i 0 n → (below n ≡ []) × OnList n
   walk-begun {n} C = (walked 0 n (omega arith) (omega arith) C ∙ along-none found (pairOf f i), C .here)

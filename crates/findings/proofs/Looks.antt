@@ -1,58 +1,68 @@
--- What the search's two sheets tell: 10 with the first reuse fault, 11 with the first race if there is none, or 0. Assumes nothing.
+-- What the sheets of a search tell: the first pair of one kind, then of both, by the heads and by the lengths. Assumes nothing.
 use mathlib.Core.Path.{_≡_, refl, sym, ap, _∙_}
 use mathlib.Core.Logic.{_≢_}
-use mathlib.Core.Bool.{Bool}
 use mathlib.Core.List.{List, [], _∷_}
-use Prim.Native.Nat.{ℕ}
+use Prim.Native.Nat.{ℕ, _≤_}
 use native.Mathlib.Omega.{arith}
 use lib.ListN.{length, getD}
-use Rattle.tables.specs.declared.verdict.Verdict.the-variants as verdict
+use Rattle.tables.specs.Rows.{rows}
+use Rattle.tables.specs.Rules.{Keeps}
+use Rattle.tables.specs.Heads.{Headed}
+use Rattle.tables.specs.Verdicts.{tell}
+use Rattle.relation.specs.Table.{related}
+use Rattle.rooms.specs.Rooms.{numberAt}
 use Rattle.sheet.specs.declared.Pair.{Pair}
 use Rattle.sheet.specs.declared.Sheet.{Sheet}
-use Rattle.faults.specs.declared.faults.Fault.the-variants.{Reuse, Race}
-use Rattle.findings.specs.declared.finding.Finding.{Finding}
 use Rattle.sheet.specs.Sheet.{mostKept, pair, firsts, sheetOf}
+use Rattle.faults.specs.declared.faults.Fault.{Fault}
+use Rattle.faults.specs.declared.faults.Fault.the-variants.{Reuse, Race}
 use Rattle.faults.specs.Faults.{faults}
-use Rattle.findings.specs.Findings.{Looked}
+use Rattle.faults.specs.Tests.{isFault}
+use Rattle.faults.proofs.Pairs.{all-faults}
+use Rattle.faults.proofs.Tests.{is-faulty}
+use Rattle.findings.specs.declared.finding.Finding.{Finding}
+use Rattle.findings.specs.Findings.{firstPair}
+use Rattle.findings.specs.Searches.{allFound, Found, Looked, LookedBy, LookedOver}
 
--- the first pair of a list that is not empty, by its sheet
-pub record First (s : Sheet) (ps : List Pair) : Type 0 where
-  pub rest : List Pair
-  pub is : ps ≡ getD (s .pairs) 0 (pair 0 0) ∷ rest
+-- ---- one kind
 
-module _ {s : Sheet} {ps : List Pair} (is : s ≡ sheetOf ps) where
-  none-found : s .total ≡ 0 → ps ≡ []
+-- by the number of its verdict
+module _ (n : ℕ) (s : Sheet) (ps : List Pair) (is : s ≡ sheetOf ps) where
+  pub told-none : s .total ≡ 0 → tell 0 0 0 ≡ firstPair n ps (tell 0 0 0)
   unfolding sheetOf
-  none-found e = by ps (sym (ap (λ (s : Sheet). s .total) is) ∙ e)
+  told-none e = by ps (sym (ap (λ (s : Sheet). s .total) is) ∙ e)
     where
-      by : (ps : List Pair) → length ps ≡ 0 → ps ≡ []
+      by : (ps : List Pair) → length ps ≡ 0 → tell 0 0 0 ≡ firstPair n ps (tell 0 0 0)
       by [] h = refl
       by (p ∷ ps) h = absurd (omega arith)
 
-  first-found : s .total ≢ 0 → First s ps
+  pub told-first : s .total ≢ 0 → tell n (getD (s .pairs) 0 (pair 0 0) .first) (getD (s .pairs) 0 (pair 0 0) .second) ≡ firstPair n ps (tell 0 0 0)
   unfolding sheetOf firsts mostKept
-  first-found h = rw is (by ps (λ e. h (ap (λ (s : Sheet). s .total) is ∙ e)))
+  told-first h = rw is (by ps (λ e. h (ap (λ (s : Sheet). s .total) is ∙ e)))
     where
-      by : (ps : List Pair) → length ps ≢ 0 → First (sheetOf ps) ps
+      by : (ps : List Pair) → length ps ≢ 0
+          → tell n (getD (sheetOf ps .pairs) 0 (pair 0 0) .first) (getD (sheetOf ps .pairs) 0 (pair 0 0) .second) ≡ firstPair n ps (tell 0 0 0)
       by [] h = absurd (h refl)
-      by (p ∷ ps) h = record { rest = ps; is = refl }
+      by (p ∷ ps) h = refl
 
-module _ (commands lengths : List ℕ) (g : ℕ → ℕ) (ρ : ℕ → ℕ → Bool) {s : Sheet} (reuses : s ≡ sheetOf (faults commands lengths g ρ Reuse)) where
-  abbrev top : Sheet → Pair
-  top s = getD (s .pairs) 0 (pair 0 0)
+-- ---- both kinds
 
-  pub looked-reuse : s .total ≢ 0 → Looked commands lengths g ρ (record { verdict = verdict.Reuse (top s .first) (top s .second); sheet = s })
-  looked-reuse h = let f = first-found reuses h .is in record { verdict = rw f; sheet = reuses ∙ rw f }
+pub looked-reuse : (ps qs : List Pair) {r : Finding} → Found Reuse ps r → r .sheet .total ≢ 0 → Looked ps qs r
+unfolding sheetOf
+looked-reuse [] qs F h = absurd (h (ap (λ (s : Sheet). s .total) (F .sheet)))
+looked-reuse (p ∷ ps) qs F h = record { verdict = F .verdict; sheet = F .sheet }
 
-  module _ (no-reuse : s .total ≡ 0) {r : Sheet} (races : r ≡ sheetOf (faults commands lengths g ρ Race)) where
-    pub looked-race : r .total ≢ 0 → Looked commands lengths g ρ (record { verdict = verdict.Race (top r .first) (top r .second); sheet = r })
-    looked-race h =
-        let e = none-found reuses no-reuse in
-        let f = first-found races h .is in
-        record { verdict = rw (e, f); sheet = races ∙ rw e }
+pub looked-race : (ps qs : List Pair) {s r : Finding} → Found Reuse ps s → s .sheet .total ≡ 0 → Found Race qs r → Looked ps qs r
+unfolding sheetOf
+looked-race [] qs F h G = record { verdict = G .verdict; sheet = G .sheet }
+looked-race (p ∷ ps) qs F h G = absurd (omega (arith, ap (λ (s : Sheet). s .total) (F .sheet)))
 
-    pub looked-none : r .total ≡ 0 → (found : Finding) → found ≡ record { verdict = verdict.Clean; sheet = sheetOf [] } → Looked commands lengths g ρ found
-    looked-none h found is =
-        let e = none-found reuses no-reuse in
-        let f = none-found races h in
-        rw is (record { verdict = rw (e, f); sheet = rw (e, f) })
+-- ---- by the lengths
+
+pub looked-over : {commands lengths heads : List ℕ} → Keeps commands lengths → Headed lengths heads → (generations relation : List ℕ)
+    → rows commands ≤ length generations → {r : Finding} → LookedBy heads commands generations relation r → LookedOver commands lengths generations relation r
+looked-over {commands} {lengths} {heads} K H generations relation whole L =
+    record { verdict = rw (← same Reuse, ← same Race) (L .verdict); sheet = rw (← same Reuse, ← same Race) (L .sheet) }
+  where
+    same : (f : Fault) → allFound heads commands generations relation f ≡ faults commands lengths (numberAt generations) (related relation (rows commands)) f
+    same f = all-faults commands lengths (numberAt generations) (related relation (rows commands)) f (isFault heads commands generations relation f) (is-faulty K H generations relation whole f)

@@ -36,11 +36,6 @@ module _ (commands lengths : List ℕ) (g : ℕ → ℕ) (ρ : ℕ → ℕ → B
   abbrev pub faultPairs : List Pair
   faultPairs = orPairs (faults commands lengths g ρ Reuse) (faults commands lengths g ρ Race)
 
-  -- the verdict and the sheet of the faults
-  pub record Looked (r : Finding) : Type 0 where
-    pub verdict : numbered (r .verdict) ≡ faultTold
-    pub sheet : r .sheet ≡ sheetOf faultPairs
-
 -- The contract of `find_faults`: 1 to 4 with an empty sheet, or 10, 11 or 0 with the faults over the numbers and the table in the rooms.
 pub record Finds (commands lengths generations relation : List ℕ) (r : Finding) : Type 0 where
   pub verdict :

@@ -12,7 +12,7 @@ use Rattle.replay.specs.Step.{registers}
 use Rattle.rooms.specs.Rooms.{numberAt}
 use Rattle.faults.specs.declared.faults.Fault.{Fault}
 use Rattle.faults.specs.declared.faults.Fault.the-variants.{Reuse, Race}
-use Rattle.faults.specs.Faults.{faulty}
+use Rattle.faults.specs.Tests.{isFault}
 
 -- such a fault can pair command c
 abbrev pub listed : Fault → List ℕ → ℕ → Bool
@@ -47,10 +47,10 @@ pub record Lists (f : Fault) (commands generations fronts nexts : List ℕ) (c :
   pub front : (k : ℕ) → k < mostRows → Next f commands generations k c (getD fronts k 0)
   pub next : (d : ℕ) → c ≤ d → d < rows commands → listed f commands d ≡ true → Next f commands generations (key f commands generations d) (d + 1) (getD nexts d 0)
 
--- n is the first number from a on that can be paired with outer number i: those before it are no faults, whatever reaches what
+-- n is the first number from a on that can be paired with outer number i: those before it are no faults, whatever the heads and whatever reaches what
 pub record Candidate (f : Fault) (commands generations : List ℕ) (i a n : ℕ) : Type 0 where
   pub here : n < rows commands → (listed f commands n ≡ true) × (key f commands generations n ≡ wanted f commands generations i)
-  pub none : (lengths : List ℕ) (ρ : ℕ → ℕ → Bool) (j : ℕ) → a ≤ j → j < rows commands → j < n → faulty commands lengths (numberAt generations) ρ f i j ≡ false
+  pub none : (heads relation : List ℕ) (j : ℕ) → a ≤ j → j < rows commands → j < n → isFault heads commands generations relation f i j ≡ false
 
 -- what the making asks for: empty lists
 pub record Unlisted (commands generations fronts nexts : List ℕ) : Type 0 where

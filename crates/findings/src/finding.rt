@@ -1,14 +1,17 @@
 // What is found: refusals 1 to 4, or the verdict of the search, with the sheet.
 ghost use mathlib.Core.Path.{_≡_};
-ghost use mathlib.Core.List.{[]};
+ghost use mathlib.Core.List.{List, []};
+ghost use Prim.Native.Nat.{_≤_};
+ghost use lib.ListN.{length};
+ghost use Rattle.tables.specs.Limits.{mostRows};
 ghost use Rattle.tables.specs.Rows.{rows};
-ghost use Rattle.relation.specs.Table.{related};
+ghost use Rattle.tables.specs.Rules.{Keeps};
+ghost use Rattle.sheet.specs.declared.Pair.{Pair};
 ghost use Rattle.sheet.specs.Sheet.{sheetOf};
-ghost use Rattle.rooms.specs.Rooms.{numberAt};
-ghost use Rattle.faults.specs.Faults.{Searches};
-ghost use Rattle.findings.specs.Findings.{Looked, Finds};
-use crate::faults::Fault;
+ghost use Rattle.findings.specs.Findings.{Finds};
+ghost use Rattle.findings.specs.Searches.{allFound, kindTold, Found, LookedBy, LookedOver};
 use crate::search::search;
+use faults::Fault;
 use rooms::refuse;
 use sheet::Sheet;
 use tables::Table;
@@ -30,41 +33,63 @@ pub fn bare(verdict: Verdict) -> Finding
     }
 }
 
-// 10, 11 or 0, with the sheet. Races are looked for only when there is no reuse fault.
-fn look(
+// The verdict of the pairs of one kind, by their sheet: the first of them, or 0.
+fn first_told(fault: Fault, sheet: Sheet) -> Verdict
+    ensures { λ r. ⌜ ((ps : List Pair) → sheet ≡ sheetOf ps → kindTold fault ps r) ⌝ }
+{
+    if sheet.total == 0 {
+        return Verdict::Clean;
+    }
+    let pair = sheet.pairs[0];
+    match fault {
+        Fault::Reuse => Verdict::Reuse(pair.first, pair.second),
+        Fault::Race => Verdict::Race(pair.first, pair.second),
+    }
+}
+
+// The faults of one kind.
+fn find_kind(
+    fault: Fault,
     commands: &[u32],
-    lengths: &[u32],
     generations: &[u32],
     relation: &[u32],
     heads: &[usize; Table::ROWS],
 ) -> Finding
-    requires { ⌜ Searches (now commands) (now lengths) (now generations) (now heads) ⌝ }
-    ensures { λ r. ⌜ Looked (now (commands .entry)) (now (lengths .entry)) (numberAt (now (generations .entry))) (related (now (relation .entry)) (rows (now (commands .entry)))) r ⌝ }
+    requires { ⌜ (rows (now commands) ≤ mostRows) × (rows (now commands) ≤ length (now generations)) ⌝ }
+    ensures { λ r. ⌜ Found fault (allFound (now (heads .entry)) (now (commands .entry)) (now (generations .entry)) (now (relation .entry)) fault) r ⌝ }
 {
-    let reuses = search(
-        Fault::Reuse,
-        commands,
-        lengths,
-        generations,
-        relation,
-        heads,
-    );
-    if reuses.total != 0 {
-        let pair = reuses.pairs[0];
-        return Finding {
-            verdict: Verdict::Reuse(pair.first, pair.second),
-            sheet: reuses,
-        };
+    let sheet = search(fault, commands, generations, relation, heads);
+    Finding {
+        verdict: first_told(fault, sheet),
+        sheet,
     }
-    let races = search(Fault::Race, commands, lengths, generations, relation, heads);
-    if races.total != 0 {
-        let pair = races.pairs[0];
-        return Finding {
-            verdict: Verdict::Race(pair.first, pair.second),
-            sheet: races,
-        };
+}
+
+// 10, 11 or 0, with the sheet. Races are looked for only when there is no reuse fault.
+fn look(
+    commands: &[u32],
+    generations: &[u32],
+    relation: &[u32],
+    heads: &[usize; Table::ROWS],
+) -> Finding
+    requires { ⌜ (rows (now commands) ≤ mostRows) × (rows (now commands) ≤ length (now generations)) ⌝ }
+    ensures { λ r. ⌜ LookedBy (now (heads .entry)) (now (commands .entry)) (now (generations .entry)) (now (relation .entry)) r ⌝ }
+{
+    let reuses = find_kind(Fault::Reuse, commands, generations, relation, heads);
+    if reuses.sheet.total != 0 {
+        return reuses;
     }
-    bare(Verdict::Clean)
+    find_kind(Fault::Race, commands, generations, relation, heads)
+}
+
+// The same of tables that pass, by the heads of their rows.
+fn look_over(commands: &[u32], lengths: &[u32], generations: &[u32], relation: &[u32]) -> Finding
+    requires { ⌜ Keeps (now commands) (now lengths) × (rows (now commands) ≤ length (now generations)) ⌝ }
+    ensures { λ r. ⌜ LookedOver (now (commands .entry)) (now (lengths .entry)) (now (generations .entry)) (now (relation .entry)) r ⌝ }
+{
+    let mut heads = [0; Table::ROWS];
+    put_heads(lengths, &mut heads);
+    look(commands, generations, relation, &heads)
 }
 
 // Any tables, any numbers offered as generations, any table of what reaches what. The rooms are only read.
@@ -80,7 +105,5 @@ pub fn find_faults(
     if refusal.number().number != 0 {
         return bare(refusal);
     }
-    let mut heads = [0; Table::ROWS];
-    put_heads(lengths, &mut heads);
-    look(commands, lengths, generations, relation, &heads)
+    look_over(commands, lengths, generations, relation)
 }

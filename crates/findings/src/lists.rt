@@ -5,7 +5,7 @@ ghost use Rattle.tables.specs.Limits.{mostRows};
 ghost use Rattle.tables.specs.Rows.{rows};
 ghost use Rattle.rooms.specs.Rooms.{OneCommand};
 ghost use Rattle.findings.specs.Lists.{listed, barrierList, key, Lists, Candidate, Unlisted};
-use crate::faults::Fault;
+use faults::Fault;
 use tables::Table;
 
 // A number of 32 bits among those of an index.

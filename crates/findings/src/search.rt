@@ -1,19 +1,18 @@
 // The one ordered search that serves both tests: each outer number walks its list.
 ghost use mathlib.Core.Path.{_≡_};
-ghost use Prim.Native.Nat.{_*_, _≤_, _<_};
+ghost use Prim.Native.Nat.{_*_, _≤_};
 ghost use lib.ListN.{length};
 ghost use Rattle.tables.specs.Limits.{mostRows};
 ghost use Rattle.tables.specs.Rows.{rows};
-ghost use Rattle.relation.specs.Table.{related};
-ghost use Rattle.rooms.specs.Rooms.{numberAt};
+ghost use Rattle.rooms.specs.Rooms.{OneCommand};
 ghost use Rattle.sheet.specs.Sheet.{sheetOf, addAll};
-ghost use Rattle.faults.specs.Faults.{faulty, pairOf, alongRow, faults, Searches};
+ghost use Rattle.findings.specs.Searches.{rowFound, allFound};
 ghost use Rattle.findings.specs.Lists.{Lists};
-use crate::faults::Fault;
-use crate::faults::is_fault;
-use crate::faults::pair_of;
 use crate::lists::first_candidate;
 use crate::lists::list;
+use faults::Fault;
+use faults::is_fault;
+use faults::pair_of;
 use sheet::Sheet;
 use sheet::with_pair;
 use tables::Table;
@@ -22,7 +21,6 @@ use tables::Table;
 fn count_row(
     fault: Fault,
     commands: &[u32],
-    lengths: &[u32],
     generations: &[u32],
     relation: &[u32],
     heads: &[usize; Table::ROWS],
@@ -30,14 +28,14 @@ fn count_row(
     nexts: &[usize; Table::ROWS],
     i: usize,
 ) -> usize
-    requires { ⌜ (i < rows (now commands)) × Searches (now commands) (now lengths) (now generations) (now heads) × Lists fault (now commands) (now generations) (now fronts) (now nexts) 0 ⌝ }
-    ensures { λ r. ⌜ r ≡ length (alongRow (faulty (now (commands .entry)) (now (lengths .entry)) (numberAt (now (generations .entry))) (related (now (relation .entry)) (rows (now (commands .entry)))) fault i) (pairOf fault i) (rows (now (commands .entry)))) ⌝ }
+    requires { ⌜ OneCommand (now commands) (now generations) i × Lists fault (now commands) (now generations) (now fronts) (now nexts) 0 ⌝ }
+    ensures { λ r. ⌜ r ≡ length (rowFound (now (heads .entry)) (now (commands .entry)) (now (generations .entry)) (now (relation .entry)) fault i) ⌝ }
 {
     let m = commands.len() / 3;
     let mut count = 0;
     let mut j = first_candidate(fault, commands, generations, fronts, nexts, i);
     while j < m {
-        if is_fault(fault, commands, lengths, generations, relation, heads, i, j) {
+        if is_fault(fault, commands, generations, relation, heads, i, j) {
             count += 1;
         }
         j = nexts[j];
@@ -50,7 +48,6 @@ fn keep_row(
     sheet: Sheet,
     fault: Fault,
     commands: &[u32],
-    lengths: &[u32],
     generations: &[u32],
     relation: &[u32],
     heads: &[usize; Table::ROWS],
@@ -58,14 +55,14 @@ fn keep_row(
     nexts: &[usize; Table::ROWS],
     i: usize,
 ) -> Sheet
-    requires { ⌜ (sheet .total ≤ mostRows * mostRows) × (i < rows (now commands)) × Searches (now commands) (now lengths) (now generations) (now heads) × Lists fault (now commands) (now generations) (now fronts) (now nexts) 0 ⌝ }
-    ensures { λ r. ⌜ r ≡ addAll sheet (alongRow (faulty (now (commands .entry)) (now (lengths .entry)) (numberAt (now (generations .entry))) (related (now (relation .entry)) (rows (now (commands .entry)))) fault i) (pairOf fault i) (rows (now (commands .entry)))) ⌝ }
+    requires { ⌜ (sheet .total ≤ mostRows * mostRows) × OneCommand (now commands) (now generations) i × Lists fault (now commands) (now generations) (now fronts) (now nexts) 0 ⌝ }
+    ensures { λ r. ⌜ r ≡ addAll sheet (rowFound (now (heads .entry)) (now (commands .entry)) (now (generations .entry)) (now (relation .entry)) fault i) ⌝ }
 {
     let m = commands.len() / 3;
     let mut found = sheet;
     let mut j = first_candidate(fault, commands, generations, fronts, nexts, i);
     while j < m {
-        if is_fault(fault, commands, lengths, generations, relation, heads, i, j) {
+        if is_fault(fault, commands, generations, relation, heads, i, j) {
             if found.total < Sheet::KEPT {
                 found = with_pair(found, pair_of(fault, i, j));
             } else {
@@ -81,15 +78,14 @@ fn keep_row(
 fn search_rows(
     fault: Fault,
     commands: &[u32],
-    lengths: &[u32],
     generations: &[u32],
     relation: &[u32],
     heads: &[usize; Table::ROWS],
     fronts: &[usize; Table::ROWS],
     nexts: &[usize; Table::ROWS],
 ) -> Sheet
-    requires { ⌜ Searches (now commands) (now lengths) (now generations) (now heads) × Lists fault (now commands) (now generations) (now fronts) (now nexts) 0 ⌝ }
-    ensures { λ r. ⌜ r ≡ sheetOf (faults (now (commands .entry)) (now (lengths .entry)) (numberAt (now (generations .entry))) (related (now (relation .entry)) (rows (now (commands .entry)))) fault) ⌝ }
+    requires { ⌜ (rows (now commands) ≤ length (now generations)) × Lists fault (now commands) (now generations) (now fronts) (now nexts) 0 ⌝ }
+    ensures { λ r. ⌜ r ≡ sheetOf (allFound (now (heads .entry)) (now (commands .entry)) (now (generations .entry)) (now (relation .entry)) fault) ⌝ }
 {
     let m = commands.len() / 3;
     let mut found = Sheet::empty();
@@ -98,7 +94,6 @@ fn search_rows(
         let n = count_row(
             fault,
             commands,
-            lengths,
             generations,
             relation,
             heads,
@@ -112,7 +107,6 @@ fn search_rows(
                     found,
                     fault,
                     commands,
-                    lengths,
                     generations,
                     relation,
                     heads,
@@ -133,13 +127,12 @@ fn search_rows(
 pub(crate) fn search(
     fault: Fault,
     commands: &[u32],
-    lengths: &[u32],
     generations: &[u32],
     relation: &[u32],
     heads: &[usize; Table::ROWS],
 ) -> Sheet
-    requires { ⌜ Searches (now commands) (now lengths) (now generations) (now heads) ⌝ }
-    ensures { λ r. ⌜ r ≡ sheetOf (faults (now (commands .entry)) (now (lengths .entry)) (numberAt (now (generations .entry))) (related (now (relation .entry)) (rows (now (commands .entry)))) fault) ⌝ }
+    requires { ⌜ (rows (now commands) ≤ mostRows) × (rows (now commands) ≤ length (now generations)) ⌝ }
+    ensures { λ r. ⌜ r ≡ sheetOf (allFound (now (heads .entry)) (now (commands .entry)) (now (generations .entry)) (now (relation .entry)) fault) ⌝ }
 {
     let mut fronts = [Table::ROWS; Table::ROWS];
     let mut nexts = [Table::ROWS; Table::ROWS];
@@ -147,7 +140,6 @@ pub(crate) fn search(
     search_rows(
         fault,
         commands,
-        lengths,
         generations,
         relation,
         heads,

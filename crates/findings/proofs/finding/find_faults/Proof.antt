@@ -1,11 +1,6 @@
--- `find_faults` meets its contract: refused, or searched with the heads of all rows. Assumes nothing.
+-- `find_faults` meets its contract: refused, or looked over. Assumes nothing.
 use mathlib.Core.Path.{_∙_}
-use Prim.Native.Nat.{ℕ}
-use native.Mathlib.Omega.{arith}
-use lib.ListN.{length-replicate}
 use borrow.Author.Needs.{needs}
-use Rattle.tables.specs.Limits.{mostRows}
-use Rattle.tables.proofs.Filling.{headed}
 use Rattle.replay.proofs.Refusals.{number-is, said-zero}
 use Rattle.rooms.proofs.Refusals.{admitted}
 use Rattle.findings.proofs.Founds.{finds-refused, finds-looked}
@@ -18,28 +13,21 @@ returns c =
     let k = n .before .refuse in
     rw (c .bare .ensures) (finds-refused _ _ _ _ (k .result) (k .ensures) (λ e. c .before .if1 .taken (number-is (k .result) (n .number .ensures) ∙ e)))
 
-look-requires : tie.Need-look-requires
-unfolding mostRows
-look-requires c κs =
-    let h = c .before .before in
-    let i = h .before .before in
-    let n = i .before .before in
+look-over-requires : tie.Need-look-over-requires
+look-over-requires c κs =
+    let n = c .before .before in
     let k = n .before .refuse in
-    let A = admitted _ _ _ _ (said-zero (k .result) (n .number .ensures) (k .ensures) (i .if1 .left)) in
-    record {
-      keeps = A .keeps;
-      headed = headed (omega (arith, A .keeps .adds-up, A .keeps .few-rows, length-replicate {A = ℕ} 512 0)) (h .put-heads .ensures);
-      whole = A .generations-fit;
-    }
+    let A = admitted _ _ _ _ (said-zero (k .result) (n .number .ensures) (k .ensures) (c .if1 .left)) in
+    (A .keeps, A .generations-fit)
 
 returns-2 : tie.Need-returns-2
 returns-2 c =
-    let i = c .before .before .before .before .before in
+    let i = c .before in
     let n = i .before .before in
     let k = n .before .refuse in
-    finds-looked _ _ _ _ (said-zero (k .result) (n .number .ensures) (k .ensures) (i .if1 .left)) (c .look .ensures)
+    finds-looked _ _ _ _ (said-zero (k .result) (n .number .ensures) (k .ensures) (i .if1 .left)) (c .look-over .ensures)
 
 pub find-faults-spec : {M : Type 1} → statement M
 find-faults-spec =
     tie.close
-    (tie.spec (λ c κs. search needs) (λ c κs. search needs) (λ c κs. search needs) returns (λ c. search needs) (λ c κs. search needs) look-requires returns-2)
+    (tie.spec (λ c κs. search needs) (λ c κs. search needs) (λ c κs. search needs) returns look-over-requires returns-2)

@@ -7,10 +7,10 @@ use Rattle.findings.proofs.search.search.Tie as tie
 
 list-requires : tie.Need-list-requires
 unfolding mostRows
-list-requires c κs = let p = c .before .before .before .before .before .before .pre in unlisted (p .keeps) (p .whole)
+list-requires c κs = let s = c .before .before .before .before .before in unlisted (s .args .commands .now) (s .args .generations .now) (s .pre .0) (s .pre .1)
 
 search-rows-requires : tie.Need-search-rows-requires
-search-rows-requires c κs = (c .before .before .before .before .before .before .before .before .before .before .before .pre, c .before .before .before .before .list .ensures)
+search-rows-requires c κs = (c .before .before .before .before .before .before .before .before .before .before .pre .1, c .before .before .before .before .list .ensures)
 
 pub search-spec : {M : Type 1} → statement M
 unfolding mostRows
