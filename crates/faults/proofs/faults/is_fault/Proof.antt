@@ -15,13 +15,13 @@ is-reuse-requires : tie.Need-is-reuse-requires
 is-reuse-requires c κs =
     let k = c .before .before in
     let L = both-there _ _ _ _ (sym (k .before .both-there .ensures) ∙ not-false _ (k .if1 .left)) in
-    record { few = L .few; whole = L .whole; from = L .to; to = L .from }
+    search needs
 
 is-race-requires : tie.Need-is-race-requires
 is-race-requires c κs =
     let k = c .before .before in
     let L = both-there _ _ _ _ (sym (k .before .both-there .ensures) ∙ not-false _ (k .if1 .left)) in
-    (L .from, L .to, L .few)
+    search needs
 
 returns-2 : tie.Need-returns-2
 unfolding isFault
