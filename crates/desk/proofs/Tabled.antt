@@ -19,7 +19,7 @@ use Rattle.replay.specs.declared.writer.Written.{Written}
 use Rattle.replay.specs.Doors.{WritesSchedule}
 use Rattle.tables.specs.declared.verdict.Told.{Told}
 use Rattle.replay.specs.Writer.{schedule, unwritten, Filled}
-use Rattle.faults.specs.declared.finding.Finding.{Finding}
+use Rattle.findings.specs.declared.finding.Finding.{Finding}
 use Rattle.review.specs.Agreement.{Reviewed}
 use Rattle.review.specs.Judge.{fills}
 use Rattle.sheet.specs.Sheet.{sheetOf}

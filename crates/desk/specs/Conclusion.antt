@@ -9,7 +9,7 @@ use Rattle.relation.specs.Table.{words}
 use Rattle.notation.specs.Reading.{reading, rowNumbers, threadLengths}
 use Rattle.replay.specs.Writer.{schedule}
 use Rattle.sheet.specs.Sheet.{sheetOf}
-use Rattle.faults.specs.Findings.{faultPairs}
+use Rattle.findings.specs.Findings.{faultPairs}
 use Rattle.review.specs.Judge.{verdictOf, generations, reaches, fills}
 use Rattle.sheet.specs.declared.Pair.{Pair}
 use Rattle.desk.specs.declared.conclusion.Conclusion.{Conclusion}

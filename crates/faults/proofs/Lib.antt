@@ -1,9 +1,6 @@
--- Laws, by subject, in an order that can be read: Searching (the pairs of a search, added to a sheet), Listing (the lists that it goes through), Looks (what a search tells), Founds (the contract of
--- `find_faults`), Unique (the doors have one outcome each). By themselves: Pairs (which pairs, in what order), Conflicts.
-pub mod Searching
-pub mod Listing
-pub mod Looks
-pub mod Founds
-pub mod Unique
+-- Laws, by subject: Pairs (which pairs, in what order), Searched (the pairs number by number, and how many), Conflicts, Tests (by the heads of tables that pass, the tests find the faults), Unique.
 pub mod Pairs
+pub mod Searched
 pub mod Conflicts
+pub mod Tests
+pub mod Unique

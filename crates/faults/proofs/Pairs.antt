@@ -159,6 +159,13 @@ all-same p q to m zero h = refl
 all-same p q to m (suc n) h =
     rw (all-same p q to m n (λ i j l. h i j (omega arith)), row-same (p n) (q n) (to n) m (λ j. h n j (omega arith)))
 
+-- a test that agrees with the definition finds the faults
+pub all-faults : (commands lengths : List ℕ) (g : ℕ → ℕ) (ρ : ℕ → ℕ → Bool) (f : Fault) (p : ℕ → ℕ → Bool)
+    → ((i j : ℕ) → i < rows commands → j < rows commands → p i j ≡ faulty commands lengths g ρ f i j)
+    → allRows p (pairOf f) (rows commands) (rows commands) ≡ faults commands lengths g ρ f
+unfolding faults
+all-faults commands lengths g ρ f p = all-same p (faulty commands lengths g ρ f) (pairOf f) (rows commands) (rows commands)
+
 module _ (commands lengths : List ℕ) (g h : ℕ → ℕ) (ρ σ : ℕ → ℕ → Bool) (same : (c : ℕ) → c < rows commands → g c ≡ h c)
     (agree : (i j : ℕ) → i < rows commands → j < rows commands → ρ i j ≡ σ i j) where
   faulty-same : (f : Fault) (i j : ℕ) → i < rows commands → j < rows commands → faulty commands lengths g ρ f i j ≡ faulty commands lengths h σ f i j
@@ -168,7 +175,7 @@ module _ (commands lengths : List ℕ) (g h : ℕ → ℕ) (ρ σ : ℕ → ℕ 
 
   pub same-faults : (f : Fault) → faults commands lengths g ρ f ≡ faults commands lengths h σ f
   unfolding faults
-  same-faults f = all-same _ _ (pairOf f) (rows commands) (rows commands) (faulty-same f)
+  same-faults f = all-faults commands lengths h σ f (faulty commands lengths g ρ f) (faulty-same f)
 
 -- ---- what the tests say, over the table of what reaches what
 

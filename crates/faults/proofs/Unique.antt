@@ -1,18 +1,16 @@
--- Any two outcomes that meet the contract of a door are equal. Assumes nothing.
-use mathlib.Core.Path.{_≡_, sym, ap₂, _∙_}
-use mathlib.Core.List.{List, []}
+-- Any two answers that meet the contract of a door are equal. Assumes nothing.
+use mathlib.Core.Path.{_≡_, sym, _∙_}
+use mathlib.Core.Bool.{Bool}
+use mathlib.Core.List.{List}
 use Prim.Native.Nat.{ℕ}
-use Rattle.tables.specs.declared.verdict.Verdict.{Verdict}
-use Rattle.tables.proofs.Verdicts.{numbered-one}
-use Rattle.sheet.specs.declared.Sheet.{Sheet}
-use Rattle.sheet.specs.Sheet.{sheetOf}
-use Rattle.faults.specs.declared.finding.Finding.{Finding}
-use Rattle.faults.specs.Findings.{Finds}
+use Rattle.sheet.specs.declared.Pair.{Pair}
+use Rattle.faults.specs.declared.faults.Fault.{Fault}
+use Rattle.faults.specs.Faults.{pairOf}
+use Rattle.faults.specs.Tests.{isFault}
 
-pub bare-one : (v : Verdict) {a b : Finding} → a ≡ record { verdict = v; sheet = sheetOf [] } → b ≡ record { verdict = v; sheet = sheetOf [] } → a ≡ b
-bare-one v A B = A ∙ sym B
+pub pair-of-one : (f : Fault) (i j : ℕ) {a b : Pair} → a ≡ pairOf f i j → b ≡ pairOf f i j → a ≡ b
+pair-of-one f i j A B = A ∙ sym B
 
-pub find-faults-one : (commands lengths generations relation : List ℕ) (a b : Finding) → Finds commands lengths generations relation a
-    → Finds commands lengths generations relation b → a ≡ b
-find-faults-one commands lengths generations relation a b A B =
-    ap₂ (λ (v : Verdict) (s : Sheet). record { verdict = v; sheet = s }) (numbered-one _ _ (A .verdict ∙ sym (B .verdict))) (A .sheet ∙ sym (B .sheet))
+pub is-fault-one : (heads commands generations relation : List ℕ) (f : Fault) (i j : ℕ) {a b : Bool} → a ≡ isFault heads commands generations relation f i j
+    → b ≡ isFault heads commands generations relation f i j → a ≡ b
+is-fault-one heads commands generations relation f i j A B = A ∙ sym B

@@ -1,12 +1,9 @@
 -- Reuse faults and races, over generations g and a table ρ of what reaches what.
 use mathlib.Core.Bool.{Bool, cond, not, _&&_, _||_}
 use mathlib.Core.List.{List, [], _∷_, _++_}
-use Prim.Native.Nat.{ℕ, zero, suc, _+_, _-_, _≤_, _<_}
+use Prim.Native.Nat.{ℕ, zero, suc, _+_, _-_}
 use lib.Dec.{eqb, ltb}
-use lib.ListN.{length}
 use Rattle.tables.specs.Rows.{rows, kind, name, write, arrive, threadOf, isFirst}
-use Rattle.tables.specs.Rules.{Keeps}
-use Rattle.tables.specs.Heads.{Headed}
 use Rattle.sheet.specs.declared.Pair.{Pair}
 use Rattle.faults.specs.declared.faults.Fault.{Fault}
 use Rattle.faults.specs.declared.faults.Fault.the-variants.{Reuse, Race}
@@ -56,19 +53,3 @@ faulty commands lengths g ρ Race i j = race commands lengths ρ i j
 -- all faults of a kind, in their order
 unfoldable pub faults : List ℕ → List ℕ → (ℕ → ℕ) → (ℕ → ℕ → Bool) → Fault → List Pair
 faults commands lengths g ρ f = allRows (faulty commands lengths g ρ f) (pairOf f) (rows commands) (rows commands)
-
--- ---- what the parts ask for
-
--- rows i and j of tables that pass are there, their generations and the heads of their threads
-pub record Looks (commands lengths generations heads : List ℕ) (i j : ℕ) : Type 0 where
-  pub keeps : Keeps commands lengths
-  pub headed : Headed lengths heads
-  pub from : i < rows commands
-  pub to : j < rows commands
-  pub whole : rows commands ≤ length generations
-
--- tables that pass, with all generations and all heads
-pub record Searches (commands lengths generations heads : List ℕ) : Type 0 where
-  pub keeps : Keeps commands lengths
-  pub headed : Headed lengths heads
-  pub whole : rows commands ≤ length generations

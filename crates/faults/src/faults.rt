@@ -1,13 +1,13 @@
 // The reuse test and the race test.
 ghost use mathlib.Core.Path.{_≡_};
-ghost use Prim.Native.Nat.{_<_};
+ghost use Prim.Native.Nat.{_<_, _≤_};
 ghost use lib.Dec.{eqb};
+ghost use lib.ListN.{length};
+ghost use Rattle.tables.specs.Limits.{mostRows};
 ghost use Rattle.tables.specs.Rows.{rows, name};
-ghost use Rattle.tables.specs.Rules.{Keeps};
-ghost use Rattle.tables.specs.Heads.{Headed};
-ghost use Rattle.relation.specs.Table.{related};
 ghost use Rattle.rooms.specs.Rooms.{numberAt, TwoCommands};
-ghost use Rattle.faults.specs.Faults.{succeeds, reuse, conflict, race, faulty, pairOf, Looks};
+ghost use Rattle.faults.specs.Faults.{succeeds, conflict, pairOf};
+ghost use Rattle.faults.specs.Tests.{bothThere, reuseBy, unordered, raceBy, isFault, BothThere};
 use relation::related;
 use sheet::Pair;
 use tables::Table;
@@ -37,23 +37,22 @@ fn succeeds(commands: &[u32], generations: &[u32], c1: usize, c2: usize) -> bool
     both & same_barrier & next
 }
 
-// Is (c1, c2) a reuse fault?
+// Is (c1, c2) a reuse fault? Unless its head is a row before it c2 is first, so that past the test there is a row c2 - 1.
 fn is_reuse(
     commands: &[u32],
-    lengths: &[u32],
     generations: &[u32],
     relation: &[u32],
     heads: &[usize; Table::ROWS],
     c1: usize,
     c2: usize,
 ) -> bool
-    requires { ⌜ Looks (now commands) (now lengths) (now generations) (now heads) c1 c2 ⌝ }
-    ensures { λ r. ⌜ r ≡ reuse (now (commands .entry)) (now (lengths .entry)) (numberAt (now (generations .entry))) (related (now (relation .entry)) (rows (now (commands .entry)))) c1 c2 ⌝ }
+    requires { ⌜ BothThere (rows (now commands)) (length (now generations)) c1 c2 ⌝ }
+    ensures { λ r. ⌜ r ≡ reuseBy (now (heads .entry)) (now (commands .entry)) (now (generations .entry)) (now (relation .entry)) c1 c2 ⌝ }
 {
     if !succeeds(commands, generations, c1, c2) {
         return false;
     }
-    if c2 == heads[c2] {
+    if c2 <= heads[c2] {
         return true;
     }
     let m = (commands.len() / 3) as u32;
@@ -72,17 +71,26 @@ fn conflict(commands: &[u32], x: usize, y: usize) -> bool
     accesses & same_address & ((a == Table::WRITE) | (b == Table::WRITE))
 }
 
+// Does neither of x and y reach the other?
+fn unordered(relation: &[u32], m: u32, x: u32, y: u32) -> bool
+    ensures { λ r. ⌜ r ≡ unordered (now (relation .entry)) m x y ⌝ }
+{
+    if related(relation, m, x, y) {
+        return false;
+    }
+    !related(relation, m, y, x)
+}
+
 // Is (x, y) a race?
 fn is_race(
     commands: &[u32],
-    lengths: &[u32],
     relation: &[u32],
     heads: &[usize; Table::ROWS],
     x: usize,
     y: usize,
 ) -> bool
-    requires { ⌜ Keeps (now commands) (now lengths) × Headed (now lengths) (now heads) × (x < rows (now commands)) × (y < rows (now commands)) ⌝ }
-    ensures { λ r. ⌜ r ≡ race (now (commands .entry)) (now (lengths .entry)) (related (now (relation .entry)) (rows (now (commands .entry)))) x y ⌝ }
+    requires { ⌜ (x < rows (now commands)) × (y < rows (now commands)) × (rows (now commands) ≤ mostRows) ⌝ }
+    ensures { λ r. ⌜ r ≡ raceBy (now (heads .entry)) (now (commands .entry)) (now (relation .entry)) x y ⌝ }
 {
     if x >= y {
         return false;
@@ -93,15 +101,11 @@ fn is_race(
     if heads[x] == heads[y] {
         return false;
     }
-    let m = (commands.len() / 3) as u32;
-    if related(relation, m, x as u32, y as u32) {
-        return false;
-    }
-    !related(relation, m, y as u32, x as u32)
+    unordered(relation, (commands.len() / 3) as u32, x as u32, y as u32)
 }
 
 // The search goes by an outer number i and an inner number j. For reuse i is c2 and j is c1; for races i is x and j is y.
-pub(crate) fn pair_of(fault: Fault, i: usize, j: usize) -> Pair
+pub fn pair_of(fault: Fault, i: usize, j: usize) -> Pair
     ensures { λ r. ⌜ r ≡ pairOf fault i j ⌝ }
 {
     match fault {
@@ -116,22 +120,30 @@ pub(crate) fn pair_of(fault: Fault, i: usize, j: usize) -> Pair
     }
 }
 
+// Are i and j among m rows, all of which have a head and one of n generations?
+fn both_there(m: usize, n: usize, i: usize, j: usize) -> bool
+    ensures { λ r. ⌜ r ≡ bothThere m n i j ⌝ }
+{
+    (m <= Table::ROWS) & (m <= n) & (i < m) & (j < m)
+}
+
 // Is the pair of outer number i and inner number j such a fault?
-pub(crate) fn is_fault(
+pub fn is_fault(
     fault: Fault,
     commands: &[u32],
-    lengths: &[u32],
     generations: &[u32],
     relation: &[u32],
     heads: &[usize; Table::ROWS],
     i: usize,
     j: usize,
 ) -> bool
-    requires { ⌜ Looks (now commands) (now lengths) (now generations) (now heads) i j ⌝ }
-    ensures { λ r. ⌜ r ≡ faulty (now (commands .entry)) (now (lengths .entry)) (numberAt (now (generations .entry))) (related (now (relation .entry)) (rows (now (commands .entry)))) fault i j ⌝ }
+    ensures { λ r. ⌜ r ≡ isFault (now (heads .entry)) (now (commands .entry)) (now (generations .entry)) (now (relation .entry)) fault i j ⌝ }
 {
+    if !both_there(commands.len() / 3, generations.len(), i, j) {
+        return false;
+    }
     match fault {
-        Fault::Reuse => is_reuse(commands, lengths, generations, relation, heads, j, i),
-        Fault::Race => is_race(commands, lengths, relation, heads, i, j),
+        Fault::Reuse => is_reuse(commands, generations, relation, heads, j, i),
+        Fault::Race => is_race(commands, relation, heads, i, j),
     }
 }

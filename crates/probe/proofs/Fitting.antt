@@ -30,7 +30,7 @@ use Rattle.review.specs.Judge.{fills}
 use Rattle.review.specs.Agreement.{Reviewed, number}
 use Rattle.sheet.specs.declared.Pair.{Pair}
 use Rattle.sheet.specs.declared.Sheet.{Sheet}
-use Rattle.faults.specs.declared.finding.Finding.{Finding}
+use Rattle.findings.specs.declared.finding.Finding.{Finding}
 use Rattle.probe.specs.Numbers.{Counted, PairsCounted}
 use Rattle.review.proofs.Bounds.{finding-small}
 

@@ -13,7 +13,7 @@ use Rattle.notation.specs.declared.reading.Reading.{Reading}
 use Rattle.replay.specs.Doors.{WritesSchedule}
 use Rattle.replay.specs.declared.writer.Written.{Written}
 use Rattle.review.specs.Agreement.{Reviewed}
-use Rattle.faults.specs.declared.finding.Finding.{Finding}
+use Rattle.findings.specs.declared.finding.Finding.{Finding}
 use Rattle.probe.specs.declared.counts.Counts.{Counts}
 use Rattle.probe.specs.Numbers.{answerRoom, largest, toldNumbers, pairNumbers, countsOf}
 use Rattle.probe.specs.Promise.{ProbesReview, ProbesSchedule, ProbesRead}

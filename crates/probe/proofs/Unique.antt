@@ -17,7 +17,7 @@ use Rattle.notation.proofs.Readings.{read-one}
 use Rattle.replay.specs.declared.writer.Written.{Written}
 use Rattle.replay.proofs.Unique.{write-one}
 use Rattle.review.specs.Agreement.{number}
-use Rattle.faults.specs.declared.finding.Finding.{Finding}
+use Rattle.findings.specs.declared.finding.Finding.{Finding}
 use Rattle.review.proofs.Unique.{review-one}
 use Rattle.probe.specs.Numbers.{answerRoom, findingNumbers, writtenNumbers, readingNumbers}
 use Rattle.probe.specs.Promise.{ProbesReview, ProbesSchedule, ProbesRead, ProbesClose}

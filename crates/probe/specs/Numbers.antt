@@ -10,7 +10,7 @@ use Rattle.notation.specs.declared.reading.Reading.{Reading}
 use Rattle.replay.specs.declared.writer.Written.{Written}
 use Rattle.sheet.specs.Sheet.{mostKept, pair}
 use Rattle.sheet.specs.declared.Pair.{Pair}
-use Rattle.faults.specs.declared.finding.Finding.{Finding}
+use Rattle.findings.specs.declared.finding.Finding.{Finding}
 use Rattle.probe.specs.declared.counts.Counts.{Counts}
 
 -- an answer room has at least so many numbers

@@ -16,7 +16,7 @@ use Rattle.notation.specs.declared.reading.Reading.{Reading}
 use Rattle.replay.specs.Doors.{WritesSchedule}
 use Rattle.replay.specs.declared.writer.Written.{Written}
 use Rattle.review.specs.Agreement.{Reviewed, number}
-use Rattle.faults.specs.declared.finding.Finding.{Finding}
+use Rattle.findings.specs.declared.finding.Finding.{Finding}
 use Rattle.probe.specs.Numbers.{answerRoom, findingNumbers, writtenNumbers, readingNumbers}
 
 -- The contract of `probe_review`.

@@ -29,15 +29,15 @@ use Rattle.sheet.specs.declared.Pair.{Pair}
 use Rattle.sheet.specs.declared.Sheet.{Sheet}
 use Rattle.faults.specs.declared.faults.Fault.{Fault}
 use Rattle.faults.specs.declared.faults.Fault.the-variants.{Reuse, Race}
-use Rattle.faults.specs.declared.finding.Finding.{Finding}
+use Rattle.findings.specs.declared.finding.Finding.{Finding}
 use Rattle.faults.specs.Faults.{pairOf, faults}
 use Rattle.sheet.specs.Sheet.{mostKept, pair, firsts, sheetOf}
 use Rattle.rooms.specs.Refusals.{shortRooms, refused}
-use Rattle.faults.specs.Findings.{firstPair, orPairs, faultTold, faultPairs}
+use Rattle.findings.specs.Findings.{firstPair, orPairs, faultTold, faultPairs}
 use Rattle.review.specs.Judge.{generations, reaches, verdictOf, fills}
 use Rattle.review.specs.Agreement.{number, Reviewed}
 use Rattle.rooms.proofs.Refusals.{admitted, refused-small}
-use Rattle.faults.proofs.Searching.{faults-few}
+use Rattle.faults.proofs.Searched.{faults-few}
 use Rattle.faults.proofs.Pairs.{in-order}
 use Rattle.review.proofs.Reviews.{no-fill, fault-small}
 

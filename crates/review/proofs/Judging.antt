@@ -33,7 +33,7 @@ use Rattle.replay.specs.InOrder.{orElse}
 use Rattle.replay.specs.Replay.{played}
 use Rattle.replay.specs.Program.{program}
 use Rattle.faults.specs.Faults.{conflict, race, faults}
-use Rattle.faults.specs.Findings.{firstPair, faultTold}
+use Rattle.findings.specs.Findings.{firstPair, faultTold}
 use Rattle.review.specs.Judge.{generations, reaches}
 use Rattle.replay.specs.Schedules.{stateAfter, Stops, Complete, stopped, mismatched, Clean, Agree, Disagree, unclean}
 use Rattle.replay.specs.Schedules as schedules

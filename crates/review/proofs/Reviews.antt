@@ -18,7 +18,7 @@ use Rattle.sheet.specs.declared.Pair.{Pair}
 use Rattle.replay.specs.declared.offered.Judged.{Judged}
 use Rattle.faults.specs.declared.faults.Fault.{Fault}
 use Rattle.faults.specs.declared.faults.Fault.the-variants.{Reuse, Race}
-use Rattle.faults.specs.declared.finding.Finding.{Finding}
+use Rattle.findings.specs.declared.finding.Finding.{Finding}
 use Rattle.replay.specs.Replay.{played}
 use Rattle.replay.specs.Doors.{Replays}
 use Rattle.replay.specs.Ending.{judged}
@@ -28,7 +28,7 @@ use Rattle.order.specs.Order.{Reached}
 use Rattle.order.specs.Orders.{Orders}
 use Rattle.faults.specs.Faults.{faults}
 use Rattle.sheet.specs.Sheet.{sheetOf}
-use Rattle.faults.specs.Findings.{firstPair, faultTold, Finds}
+use Rattle.findings.specs.Findings.{firstPair, faultTold, Finds}
 use Rattle.review.specs.Judge.{put, generations, reaches, verdictOf, fills}
 use Rattle.review.specs.Agreement.{number, Judges, Reviewed}
 use Rattle.replay.proofs.Refusals.{or-first, or-second}

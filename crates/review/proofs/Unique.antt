@@ -10,7 +10,7 @@ use Rattle.tables.proofs.Verdicts.{numbered-one}
 use Rattle.relation.proofs.Truth.{split}
 use Rattle.relation.proofs.Rooms.{Words, holds-one}
 use Rattle.sheet.specs.declared.Sheet.{Sheet}
-use Rattle.faults.specs.declared.finding.Finding.{Finding}
+use Rattle.findings.specs.declared.finding.Finding.{Finding}
 use Rattle.review.specs.Judge.{fills}
 use Rattle.review.specs.Agreement.{number, Reviewed}
 

@@ -8,13 +8,13 @@ use lib.ListN.{length, getD}
 use Rattle.tables.specs.Rows.{rows}
 use Rattle.tables.specs.Verdicts.{tell, numbered}
 use Rattle.relation.specs.Table.{words}
-use Rattle.faults.specs.declared.finding.Finding.{Finding}
+use Rattle.findings.specs.declared.finding.Finding.{Finding}
 use Rattle.replay.specs.Replay.{played}
 use Rattle.order.specs.Order.{Reached}
 use Rattle.sheet.specs.Sheet.{sheetOf}
 use Rattle.faults.specs.Faults.{conflict}
 use Rattle.rooms.specs.Refusals.{refused}
-use Rattle.faults.specs.Findings.{faultPairs}
+use Rattle.findings.specs.Findings.{faultPairs}
 use Rattle.review.specs.Judge.{put, verdictOf, generations, reaches, fills}
 use Rattle.replay.specs.Schedules.{Complete, Agree, InOneOrder, Disagree}
 

@@ -12,7 +12,7 @@ use Rattle.schedules.specs.Tally.{bit}
 use Rattle.sheet.specs.declared.Pair.{Pair}
 use Rattle.replay.specs.Replay.{played}
 use Rattle.sheet.specs.Sheet.{pair, sheetOf}
-use Rattle.faults.specs.Findings.{faultPairs}
+use Rattle.findings.specs.Findings.{faultPairs}
 use Rattle.review.specs.Judge.{verdictOf, generations, reaches, fills}
 
 -- ---- the table

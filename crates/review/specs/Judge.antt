@@ -11,7 +11,7 @@ use Rattle.replay.specs.Replay.{played, generation}
 use Rattle.replay.specs.Ending.{judged}
 use Rattle.replay.specs.Program.{program}
 use Rattle.rooms.specs.Refusals.{refused}
-use Rattle.faults.specs.Findings.{faultTold}
+use Rattle.findings.specs.Findings.{faultTold}
 
 -- the first m numbers are put into a room; the rest is kept
 abbrev pub put : List ℕ → ℕ → List ℕ → List ℕ

@@ -1,9 +1,9 @@
 // The review: the refusals, the replay, the rooms and the verdict.
 ghost use Rattle.review.specs.Agreement.{Reviewed};
 use crate::generations::put_generations;
-use faults::Finding;
-use faults::bare;
-use faults::find_faults;
+use findings::Finding;
+use findings::bare;
+use findings::find_faults;
 use order::put_order;
 use replay::judge;
 use rooms::refuse;

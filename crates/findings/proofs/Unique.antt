@@ -1,0 +1,18 @@
+-- Any two outcomes that meet the contract of a door are equal. Assumes nothing.
+use mathlib.Core.Path.{_≡_, sym, ap₂, _∙_}
+use mathlib.Core.List.{List, []}
+use Prim.Native.Nat.{ℕ}
+use Rattle.tables.specs.declared.verdict.Verdict.{Verdict}
+use Rattle.tables.proofs.Verdicts.{numbered-one}
+use Rattle.sheet.specs.declared.Sheet.{Sheet}
+use Rattle.sheet.specs.Sheet.{sheetOf}
+use Rattle.findings.specs.declared.finding.Finding.{Finding}
+use Rattle.findings.specs.Findings.{Finds}
+
+pub bare-one : (v : Verdict) {a b : Finding} → a ≡ record { verdict = v; sheet = sheetOf [] } → b ≡ record { verdict = v; sheet = sheetOf [] } → a ≡ b
+bare-one v A B = A ∙ sym B
+
+pub find-faults-one : (commands lengths generations relation : List ℕ) (a b : Finding) → Finds commands lengths generations relation a
+    → Finds commands lengths generations relation b → a ≡ b
+find-faults-one commands lengths generations relation a b A B =
+    ap₂ (λ (v : Verdict) (s : Sheet). record { verdict = v; sheet = s }) (numbered-one _ _ (A .verdict ∙ sym (B .verdict))) (A .sheet ∙ sym (B .sheet))

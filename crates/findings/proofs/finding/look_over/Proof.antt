@@ -1,0 +1,25 @@
+-- The room has the heads of all rows, by which the faults are those by the lengths. Assumes nothing.
+use Prim.Native.Nat.{ℕ}
+use native.Mathlib.Omega.{arith}
+use lib.ListN.{length-replicate}
+use borrow.Author.Needs.{needs}
+use Rattle.tables.specs.Limits.{mostRows}
+use Rattle.tables.proofs.Filling.{headed}
+use Rattle.findings.proofs.Looks.{looked-over}
+use Rattle.findings.proofs.finding.look_over.Statement.{statement}
+use Rattle.findings.proofs.finding.look_over.Tie as tie
+
+look-requires : tie.Need-look-requires
+look-requires c κs = let p = c .before .before .before .before .before .before .before .before .pre in (p .0 .few-rows, p .1)
+
+returns : tie.Need-returns
+unfolding mostRows
+returns c =
+    let h = c .before .before .before in
+    let s = h .before .before .before .before .before .before in
+    let K = s .pre .0 in
+    looked-over K (headed (omega (arith, K .adds-up, K .few-rows, length-replicate {A = ℕ} 512 0)) (h .put-heads .ensures))
+    (s .args .generations .now) (s .args .relation .now) (s .pre .1) (c .look .ensures)
+
+pub look-over-spec : {M : Type 1} → statement M
+look-over-spec = tie.close (tie.spec (λ c. search needs) (λ c κs. search needs) look-requires returns)

@@ -1,0 +1,61 @@
+-- Lists of the commands that a fault can pair: for reuse the registering ones, by barrier and generation; for races the accesses, by address.
+use mathlib.Core.Path.{_≡_}
+use mathlib.Core.Logic.{_≢_}
+use mathlib.Core.Bool.{Bool, true, false}
+use mathlib.Core.List.{List}
+use Prim.Native.Nat.{ℕ, _+_, _-_, _*_, _/_, _%_, _≤_, _<_}
+use lib.Dec.{ltb}
+use lib.ListN.{length, getD}
+use Rattle.tables.specs.Limits.{mostRows, barriers}
+use Rattle.tables.specs.Rows.{rows, kind, name, arrive}
+use Rattle.replay.specs.Step.{registers}
+use Rattle.rooms.specs.Rooms.{numberAt}
+use Rattle.faults.specs.declared.faults.Fault.{Fault}
+use Rattle.faults.specs.declared.faults.Fault.the-variants.{Reuse, Race}
+use Rattle.faults.specs.Tests.{isFault}
+
+-- such a fault can pair command c
+abbrev pub listed : Fault → List ℕ → ℕ → Bool
+listed Reuse commands c = registers commands c
+listed Race commands c = ltb (kind commands c) arrive
+
+-- the list of a barrier and generation. There are as many lists as rows, and others may share it: that costs time alone.
+abbrev pub barrierList : ℕ → ℕ → ℕ
+barrierList barrier generation = (barrier * (mostRows / barriers) + generation) % mostRows
+
+-- the list of command c
+abbrev pub key : Fault → List ℕ → List ℕ → ℕ → ℕ
+key Reuse commands generations c = barrierList (name commands c) (numberAt generations c)
+key Race commands generations c = name commands c % mostRows
+
+-- the list in which outer number i finds its faults: c₂ that of the generation before its own, and x its own
+abbrev pub wanted : Fault → List ℕ → List ℕ → ℕ → ℕ
+wanted Reuse commands generations i = barrierList (name commands i) (numberAt generations i + (mostRows - 1))
+wanted Race commands generations i = key Race commands generations i
+
+-- n is the first number from a on in list k; where there is none, it is past all rows
+pub record Next (f : Fault) (commands generations : List ℕ) (k a n : ℕ) : Type 0 where
+  pub from : a ≤ n
+  pub here : n < rows commands → (listed f commands n ≡ true) × (key f commands generations n ≡ k)
+  pub none : (j : ℕ) → a ≤ j → j < rows commands → j < n → listed f commands j ≡ true → key f commands generations j ≢ k
+
+-- the lists of the commands from c on: the front of each, and the next after each command
+pub record Lists (f : Fault) (commands generations fronts nexts : List ℕ) (c : ℕ) : Type 0 where
+  pub few : rows commands ≤ mostRows
+  pub fronts-fit : length fronts ≡ mostRows
+  pub nexts-fit : length nexts ≡ mostRows
+  pub front : (k : ℕ) → k < mostRows → Next f commands generations k c (getD fronts k 0)
+  pub next : (d : ℕ) → c ≤ d → d < rows commands → listed f commands d ≡ true → Next f commands generations (key f commands generations d) (d + 1) (getD nexts d 0)
+
+-- n is the first number from a on that can be paired with outer number i: those before it are no faults, whatever the heads and whatever reaches what
+pub record Candidate (f : Fault) (commands generations : List ℕ) (i a n : ℕ) : Type 0 where
+  pub here : n < rows commands → (listed f commands n ≡ true) × (key f commands generations n ≡ wanted f commands generations i)
+  pub none : (heads relation : List ℕ) (j : ℕ) → a ≤ j → j < rows commands → j < n → isFault heads commands generations relation f i j ≡ false
+
+-- what the making asks for: empty lists
+pub record Unlisted (commands generations fronts nexts : List ℕ) : Type 0 where
+  pub few : rows commands ≤ mostRows
+  pub whole : rows commands ≤ length generations
+  pub fronts-fit : length fronts ≡ mostRows
+  pub nexts-fit : length nexts ≡ mostRows
+  pub empty : (k : ℕ) → k < mostRows → rows commands ≤ getD fronts k 0
