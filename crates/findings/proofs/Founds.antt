@@ -1,5 +1,5 @@
 -- The contract of `find_faults` from what its parts found: refused, or what a search tells. Assumes nothing.
-use mathlib.Core.Path.{_≡_, ap, _∙_}
+use mathlib.Core.Path.{_≡_, _∙_}
 use mathlib.Core.Logic.{_≢_}
 use mathlib.Core.List.{List, []}
 use Prim.Native.Nat.{ℕ}
@@ -19,11 +19,9 @@ module _ (commands lengths generations relation : List ℕ) where
   abbrev told : Told
   told = refused commands lengths (length relation) (length generations)
 
-  pub finds-refused : (v : Verdict) → numbered v ≡ told → numbered v .number ≢ 0
+  pub finds-refused : (v : Verdict) → numbered v ≡ told → told .number ≢ 0
       → Finds commands lengths generations relation (record { verdict = v; sheet = sheetOf [] })
-  finds-refused v e n =
-      let m : told .number ≢ 0 = λ z. n (ap (λ (t : Told). t .number) e ∙ z) in
-      record { verdict = e ∙ or-first told _ m; sheet = rw (ne-eqb (told .number) 0 m) }
+  finds-refused v e n = record { verdict = e ∙ or-first told _ n; sheet = rw (ne-eqb (told .number) 0 n) }
 
   pub finds-looked : told .number ≡ 0 → {r : Finding} → LookedOver commands lengths generations relation r
       → Finds commands lengths generations relation r

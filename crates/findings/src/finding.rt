@@ -12,6 +12,7 @@ ghost use Rattle.findings.specs.Findings.{Finds};
 ghost use Rattle.findings.specs.Searches.{allFound, kindTold, Found, LookedBy, LookedOver};
 use crate::search::search;
 use faults::Fault;
+use rooms::admits;
 use rooms::refuse;
 use sheet::Sheet;
 use tables::Table;
@@ -101,9 +102,8 @@ pub fn find_faults(
 ) -> Finding
     ensures { λ r. ⌜ Finds (now (commands .entry)) (now (lengths .entry)) (now (generations .entry)) (now (relation .entry)) r ⌝ }
 {
-    let refusal = refuse(commands, lengths, relation.len(), generations.len());
-    if refusal.number().number != 0 {
-        return bare(refusal);
+    if !admits(commands, lengths, relation.len(), generations.len()) {
+        return bare(refuse(commands, lengths, relation.len(), generations.len()));
     }
     look_over(commands, lengths, generations, relation)
 }
