@@ -1,29 +1,31 @@
 -- Three pairs, each as its test found it. Assumes nothing.
 use mathlib.Core.Path.{sym, _∙_}
-use mathlib.Core.List.{List}
-use Prim.Native.Nat.{ℕ, _≤_, _<_}
 use native.Mathlib.Omega.{arith}
 use borrow.Author.Needs.{needs}
 use Rattle.tables.specs.Limits.{mostRows}
 use Rattle.tables.specs.Rows.{rows}
-use Rattle.order.proofs.Leading.{Meeting, meets-parts}
+use Rattle.order.proofs.Leading.{meets-parts}
 use Rattle.order.proofs.Drawing.{adds-join, adds-map, follows-low, three-draws, draws-three}
 use Rattle.order.proofs.pairs.put_command.Statement.{statement}
 use Rattle.order.proofs.pairs.put_command.Tie as tie
 
-rows-few : {commands generations : List ℕ} {i k : ℕ} → rows commands ≤ mostRows → Meeting commands generations i k → (i < mostRows) × (k < mostRows)
-rows-few few M = (omega (arith, M .from), omega (arith, M .to))
-
 put-pair-requires : tie.Need-put-pair-requires
 put-pair-requires c κs =
     let s = c .before .before .before .before .before .before in
-    (omega (arith, s .pre .1), λ t. rows-few (s .pre .0) (meets-parts (s .args .commands .now) (s .args .generations .now) _ _ (sym (c .meets-row .ensures) ∙ t)))
+    let a = s .args in
+    let l = c .before .before .leader .result in (
+      omega (arith, s .pre .1),
+      λ t. let M = meets-parts (a .commands .now) (a .generations .now) l (a .c) (sym (c .meets-row .ensures) ∙ t) in (omega (arith, s .pre .0), omega (arith, s .pre .0)),
+    )
 
 put-pair-requires-2 : tie.Need-put-pair-requires-2
 put-pair-requires-2 c κs =
-    let s = c .before .before .before .before .before .before .before .before .before .before .before in (
-      omega (arith, s .pre .1, c .before .before .before .before .put-pair .ensures .few, c .before .before .before .before .put-pair .ensures .len),
-      λ t. rows-few (s .pre .0) (meets-parts (s .args .commands .now) (s .args .generations .now) _ _ (sym (c .meets-row2 .ensures) ∙ t)),
+    let s = c .before .before .before .before .before .before .before .before .before .before .before in
+    let a = s .args in
+    let p = c .before .before .before .before .put-pair .ensures in
+    let l = c .before .before .before .before .before .before .before .leader .result in (
+      omega (arith, s .pre .1, p .few, p .len),
+      λ t. let M = meets-parts (a .commands .now) (a .generations .now) (a .c) l (sym (c .meets-row2 .ensures) ∙ t) in (omega (arith, s .pre .0), omega (arith, s .pre .0)),
     )
 
 put-pair-requires-3 : tie.Need-put-pair-requires-3
