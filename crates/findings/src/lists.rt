@@ -4,7 +4,7 @@ ghost use Prim.Native.Nat.{_+_, _<_, _^_};
 ghost use Rattle.tables.specs.Limits.{mostRows};
 ghost use Rattle.tables.specs.Rows.{rows, name};
 ghost use Rattle.rooms.specs.Rooms.{numberAt, OneCommand};
-ghost use Rattle.findings.specs.Lists.{listed, barrierList, key, Lists, Candidate, Unlisted};
+ghost use Rattle.findings.specs.Lists.{listed, barrierList, key, Lists, Candidate, Walks, Unlisted};
 use faults::Fault;
 use tables::Table;
 
@@ -78,7 +78,7 @@ pub(crate) fn first_candidate(
     nexts: &[usize; Table::ROWS],
     i: usize,
 ) -> usize
-    requires { ⌜ OneCommand (now commands) (now generations) i × Lists fault (now commands) (now generations) (now fronts) (now nexts) 0 ⌝ }
+    requires { ⌜ Walks fault (now commands) (now generations) (now fronts) (now nexts) i ⌝ }
     ensures { λ r. ⌜ Candidate fault (now (commands .entry)) (now (generations .entry)) i 0 r ⌝ }
 {
     if !listed(fault, commands, i) {
