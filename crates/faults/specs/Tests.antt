@@ -1,4 +1,5 @@
--- The tests as they are made of any numbers: a row's thread is known by its head, the row that the thread begins at, and no fault is found where rows or numbers are missing.
+-- The tests as they are made of any numbers: a row's thread is known by its head, the row that it begins at. Where rows or their numbers are missing, there
+-- is no fault.
 use mathlib.Core.Bool.{Bool, not, _&&_, _||_}
 use mathlib.Core.List.{List}
 use Prim.Native.Nat.{ℕ, _-_, _≤_, _<_}

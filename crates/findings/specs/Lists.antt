@@ -52,6 +52,12 @@ pub record Candidate (f : Fault) (commands generations : List ℕ) (i a n : ℕ)
   pub here : n < rows commands → (listed f commands n ≡ true) × (key f commands generations n ≡ wanted f commands generations i)
   pub none : (heads relation : List ℕ) (j : ℕ) → a ≤ j → j < rows commands → j < n → isFault heads commands generations relation f i j ≡ false
 
+-- what a walk from outer number i asks for: its row is there, all generations, and the lists of all commands
+pub record Walks (f : Fault) (commands generations fronts nexts : List ℕ) (i : ℕ) : Type 0 where
+  pub there : i < rows commands
+  pub whole : rows commands ≤ length generations
+  pub lists : Lists f commands generations fronts nexts 0
+
 -- what the making asks for: empty lists
 pub record Unlisted (commands generations fronts nexts : List ℕ) : Type 0 where
   pub few : rows commands ≤ mostRows

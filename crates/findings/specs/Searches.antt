@@ -8,7 +8,6 @@ use Rattle.tables.specs.declared.verdict.Verdict.{Verdict}
 use Rattle.relation.specs.Table.{related}
 use Rattle.rooms.specs.Rooms.{numberAt}
 use Rattle.sheet.specs.declared.Pair.{Pair}
-use Rattle.sheet.specs.declared.Sheet.{Sheet}
 use Rattle.sheet.specs.Sheet.{sheetOf}
 use Rattle.faults.specs.declared.faults.Fault.{Fault}
 use Rattle.faults.specs.declared.faults.Fault.the-variants.{Reuse, Race}

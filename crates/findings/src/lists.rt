@@ -1,10 +1,10 @@
 // Lists of the commands that a fault can pair, so that a search walks no others.
 ghost use mathlib.Core.Path.{_≡_};
-ghost use Prim.Native.Nat.{_<_, _^_};
+ghost use Prim.Native.Nat.{_+_, _<_, _^_};
 ghost use Rattle.tables.specs.Limits.{mostRows};
-ghost use Rattle.tables.specs.Rows.{rows};
-ghost use Rattle.rooms.specs.Rooms.{OneCommand};
-ghost use Rattle.findings.specs.Lists.{listed, barrierList, key, Lists, Candidate, Unlisted};
+ghost use Rattle.tables.specs.Rows.{rows, name};
+ghost use Rattle.rooms.specs.Rooms.{numberAt, OneCommand};
+ghost use Rattle.findings.specs.Lists.{listed, barrierList, key, Lists, Candidate, Walks, Unlisted};
 use faults::Fault;
 use tables::Table;
 
@@ -27,12 +27,13 @@ fn listed(fault: Fault, commands: &[u32], c: usize) -> bool
     }
 }
 
-// The list of a barrier and generation.
-fn barrier_list(barrier: u32, generation: usize) -> usize
-    requires { ⌜ generation < 2 ^ 33 ⌝ }
-    ensures { λ r. ⌜ (r ≡ barrierList barrier generation) × (r < mostRows) ⌝ }
+// The list of c's barrier and of a generation so many after c's own.
+fn barrier_list(commands: &[u32], generations: &[u32], c: usize, after: usize) -> usize
+    requires { ⌜ OneCommand (now commands) (now generations) c × (after < mostRows) ⌝ }
+    ensures { λ r. ⌜ (r ≡ barrierList (name (now (commands .entry)) c) (numberAt (now (generations .entry)) c + after)) × (r < mostRows) ⌝ }
 {
-    (wide(barrier) * (Table::ROWS / Table::BARRIERS) + generation) % Table::ROWS
+    let first = wide(commands[c * 3 + 1]) * (Table::ROWS / Table::BARRIERS);
+    (first + wide(generations[c]) + after) % Table::ROWS
 }
 
 // The list of command c.
@@ -40,10 +41,9 @@ fn key(fault: Fault, commands: &[u32], generations: &[u32], c: usize) -> usize
     requires { ⌜ OneCommand (now commands) (now generations) c ⌝ }
     ensures { λ r. ⌜ (r ≡ key fault (now (commands .entry)) (now (generations .entry)) c) × (r < mostRows) ⌝ }
 {
-    let name = commands[c * 3 + 1];
     match fault {
-        Fault::Reuse => barrier_list(name, wide(generations[c])),
-        Fault::Race => wide(name) % Table::ROWS,
+        Fault::Reuse => barrier_list(commands, generations, c, 0),
+        Fault::Race => wide(commands[c * 3 + 1]) % Table::ROWS,
     }
 }
 
@@ -78,17 +78,14 @@ pub(crate) fn first_candidate(
     nexts: &[usize; Table::ROWS],
     i: usize,
 ) -> usize
-    requires { ⌜ OneCommand (now commands) (now generations) i × Lists fault (now commands) (now generations) (now fronts) (now nexts) 0 ⌝ }
+    requires { ⌜ Walks fault (now commands) (now generations) (now fronts) (now nexts) i ⌝ }
     ensures { λ r. ⌜ Candidate fault (now (commands .entry)) (now (generations .entry)) i 0 r ⌝ }
 {
     if !listed(fault, commands, i) {
         return Table::ROWS;
     }
     match fault {
-        Fault::Reuse => {
-            let before = wide(generations[i]) + (Table::ROWS - 1);
-            fronts[barrier_list(commands[i * 3 + 1], before)]
-        }
+        Fault::Reuse => fronts[barrier_list(commands, generations, i, Table::ROWS - 1)],
         Fault::Race => nexts[i],
     }
 }

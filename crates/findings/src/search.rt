@@ -4,10 +4,9 @@ ghost use Prim.Native.Nat.{_*_, _≤_};
 ghost use lib.ListN.{length};
 ghost use Rattle.tables.specs.Limits.{mostRows};
 ghost use Rattle.tables.specs.Rows.{rows};
-ghost use Rattle.rooms.specs.Rooms.{OneCommand};
 ghost use Rattle.sheet.specs.Sheet.{sheetOf, addAll};
 ghost use Rattle.findings.specs.Searches.{rowFound, allFound};
-ghost use Rattle.findings.specs.Lists.{Lists};
+ghost use Rattle.findings.specs.Lists.{Lists, Walks};
 use crate::lists::first_candidate;
 use crate::lists::list;
 use faults::Fault;
@@ -28,7 +27,7 @@ fn count_row(
     nexts: &[usize; Table::ROWS],
     i: usize,
 ) -> usize
-    requires { ⌜ OneCommand (now commands) (now generations) i × Lists fault (now commands) (now generations) (now fronts) (now nexts) 0 ⌝ }
+    requires { ⌜ Walks fault (now commands) (now generations) (now fronts) (now nexts) i ⌝ }
     ensures { λ r. ⌜ r ≡ length (rowFound (now (heads .entry)) (now (commands .entry)) (now (generations .entry)) (now (relation .entry)) fault i) ⌝ }
 {
     let m = commands.len() / 3;
@@ -55,7 +54,7 @@ fn keep_row(
     nexts: &[usize; Table::ROWS],
     i: usize,
 ) -> Sheet
-    requires { ⌜ (sheet .total ≤ mostRows * mostRows) × OneCommand (now commands) (now generations) i × Lists fault (now commands) (now generations) (now fronts) (now nexts) 0 ⌝ }
+    requires { ⌜ (sheet .total ≤ mostRows * mostRows) × Walks fault (now commands) (now generations) (now fronts) (now nexts) i ⌝ }
     ensures { λ r. ⌜ r ≡ addAll sheet (rowFound (now (heads .entry)) (now (commands .entry)) (now (generations .entry)) (now (relation .entry)) fault i) ⌝ }
 {
     let m = commands.len() / 3;

@@ -33,14 +33,14 @@ add-count c =
     let s = c .before .before .before .before .before .before .before .before in
     let a = s .args in
     let l = c .before .before .before .loop in
-    omega (arith, l .inv .0, below-few (a .heads .now) (a .commands .now) (a .generations .now) (a .relation .now) (a .fault) (a .i) (l .j), c .before .before .loop-test .taken, s .pre .1 .few)
+    omega (arith, l .inv .0, below-few (a .heads .now) (a .commands .now) (a .generations .now) (a .relation .now) (a .fault) (a .i) (l .j), c .before .before .loop-test .taken, s .pre .lists .few)
 
 loop-less : tie.Need-loop-less Inv-loop μ-loop
 loop-less c =
     let s = c .before .before .before .before .before .before .before .before .before in
     let a = s .args in
     let l = c .before .before .before .before .loop in
-    let W = walk-on (a .heads .now) (a .commands .now) (a .generations .now) (a .relation .now) (a .fault) (a .i) (s .pre .1) (l .j) (c .before .before .before .loop-test .taken) (l .inv .1) in
+    let W = walk-on (a .heads .now) (a .commands .now) (a .generations .now) (a .relation .now) (a .fault) (a .i) (s .pre .lists) (l .j) (c .before .before .before .loop-test .taken) (l .inv .1) in
     omega (arith, W .higher)
 
 loop-again : tie.Need-loop-again Inv-loop μ-loop
@@ -48,7 +48,7 @@ loop-again c =
     let s = c .before .before .before .before .before .before .before .before .before in
     let a = s .args in
     let l = c .before .before .before .before .loop in
-    let W = walk-on (a .heads .now) (a .commands .now) (a .generations .now) (a .relation .now) (a .fault) (a .i) (s .pre .1) (l .j) (c .before .before .before .loop-test .taken) (l .inv .1) in
+    let W = walk-on (a .heads .now) (a .commands .now) (a .generations .now) (a .relation .now) (a .fault) (a .i) (s .pre .lists) (l .j) (c .before .before .before .loop-test .taken) (l .inv .1) in
     let e = sym (c .before .before .is-fault .ensures) in (
       ⊎-elim (λ w. w .1 ∙ one-counted (below (a .heads .now) (a .commands .now) (a .generations .now) (a .relation .now) (a .fault) (a .i) (l .j)) _ (pairOf (a .fault) (a .i) (l .j)) (l .inv .0) (W .more (e ∙ w .0 .taken)))
           (λ w. w .1 ∙ l .inv .0 ∙ ap (λ (ps : List Pair). length ps) (sym (W .same (e ∙ w .0 .left))))

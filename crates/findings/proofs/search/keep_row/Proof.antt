@@ -32,14 +32,14 @@ add-found c =
     let s = c .before .before .before .before .before .before .before .before .before .before .before in
     let a = s .args in
     let l = c .before .before .before .before .before .before .loop in
-    omega (arith, total-low (a .heads .now) (a .commands .now) (a .generations .now) (a .relation .now) (a .fault) (a .i) (a .sheet) (l .found) (l .j) (l .inv .0), s .pre .0, c .before .before .before .before .before .loop-test .taken, s .pre .2 .few)
+    omega (arith, total-low (a .heads .now) (a .commands .now) (a .generations .now) (a .relation .now) (a .fault) (a .i) (a .sheet) (l .found) (l .j) (l .inv .0), s .pre .0, c .before .before .before .before .before .loop-test .taken, s .pre .1 .lists .few)
 
 loop-less : tie.Need-loop-less Inv-loop μ-loop
 loop-less c =
     let s = c .before .before .before .before .before .before .before .before .before in
     let a = s .args in
     let l = c .before .before .before .before .loop in
-    let W = walk-on (a .heads .now) (a .commands .now) (a .generations .now) (a .relation .now) (a .fault) (a .i) (s .pre .2) (l .j) (c .before .before .before .loop-test .taken) (l .inv .1) in
+    let W = walk-on (a .heads .now) (a .commands .now) (a .generations .now) (a .relation .now) (a .fault) (a .i) (s .pre .1 .lists) (l .j) (c .before .before .before .loop-test .taken) (l .inv .1) in
     omega (arith, W .higher)
 
 loop-again : tie.Need-loop-again Inv-loop μ-loop
@@ -49,13 +49,13 @@ loop-again c =
     let a = s .args in
     let l = c .before .before .before .before .loop in
     let h = c .before .before .before .loop-test .taken in
-    let W = walk-on (a .heads .now) (a .commands .now) (a .generations .now) (a .relation .now) (a .fault) (a .i) (s .pre .2) (l .j) h (l .inv .1) in
+    let W = walk-on (a .heads .now) (a .commands .now) (a .generations .now) (a .relation .now) (a .fault) (a .i) (s .pre .1 .lists) (l .j) h (l .inv .1) in
     let p = pairOf (a .fault) (a .i) (l .j) in
     let e = sym (c .before .before .is-fault .ensures) in
     let few = total-low (a .heads .now) (a .commands .now) (a .generations .now) (a .relation .now) (a .fault) (a .i) (a .sheet) (l .found) (l .j) (l .inv .0) in (
       ⊎-elim (λ w. w .5 ∙ w .4 .ensures ∙ ap (added (l .found)) (w .3 .ensures) ∙ one-added (below (a .heads .now) (a .commands .now) (a .generations .now) (a .relation .now) (a .fault) (a .i) (l .j)) _ p (a .sheet) (l .inv .0) (W .more (e ∙ w .0 .taken)))
           (⊎-elim
-          (λ w. w .4 ∙ added-full (l .found) p (w .2 .left) (omega (arith, few, s .pre .0, h, s .pre .2 .few))
+          (λ w. w .4 ∙ added-full (l .found) p (w .2 .left) (omega (arith, few, s .pre .0, h, s .pre .1 .lists .few))
           ∙ one-added (below (a .heads .now) (a .commands .now) (a .generations .now) (a .relation .now) (a .fault) (a .i) (l .j)) _ p (a .sheet) (l .inv .0) (W .more (e ∙ w .0 .taken)))
           (λ w. w .1 ∙ l .inv .0 ∙ ap (addAll (a .sheet)) (sym (W .same (e ∙ w .0 .left)))))
           (c .before .if1 .came),

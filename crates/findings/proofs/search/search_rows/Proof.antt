@@ -33,8 +33,7 @@ keep-row-requires c κs =
     let n = c .before .before .before .count-row in
     let low = c .before .before .before .before .loop-test .taken in (
       omega (arith, total-few (isFault (a .heads .now) (a .commands .now) (a .generations .now) (a .relation .now) (a .fault)) (pairOf (a .fault)) (rows (a .commands .now)) (l .found) (l .found) (l .i) (n .result) (s .pre .1 .few) low (l .inv .1) (n .ensures)),
-      record { there = low; whole = s .pre .0 },
-      s .pre .1,
+      record { there = low; whole = s .pre .0; lists = s .pre .1 },
     )
 
 add-found : tie.Need-add-found Inv-loop μ-loop
