@@ -122,7 +122,7 @@ fn search_rows(
     found
 }
 
-// The same, with the lists made first. Neither test before it ever answers: they tell the compiler what `is_fault` tests of each pair, so that it need not do so in the walks.
+// The same, with the lists made first.
 pub(crate) fn search(
     fault: Fault,
     commands: &[u32],
@@ -133,13 +133,6 @@ pub(crate) fn search(
     requires { ⌜ (rows (now commands) ≤ mostRows) × (rows (now commands) ≤ length (now generations)) ⌝ }
     ensures { λ r. ⌜ r ≡ sheetOf (allFound (now (heads .entry)) (now (commands .entry)) (now (generations .entry)) (now (relation .entry)) fault) ⌝ }
 {
-    let m = commands.len() / 3;
-    if Table::ROWS < m {
-        return Sheet::empty();
-    }
-    if generations.len() < m {
-        return Sheet::empty();
-    }
     let mut fronts = [Table::ROWS; Table::ROWS];
     let mut nexts = [Table::ROWS; Table::ROWS];
     list(fault, commands, generations, &mut fronts, &mut nexts);

@@ -1,34 +1,22 @@
--- Empty lists are filled, and then walked; what is asked for rules out the two tests. Assumes nothing.
-use native.Mathlib.Omega.{arith}
+-- Empty lists are filled, and then walked. Assumes nothing.
 use Rattle.tables.specs.Limits.{mostRows}
 use Rattle.findings.proofs.Listing.{unlisted}
 use borrow.Author.Needs.{needs}
 use Rattle.findings.proofs.search.search.Statement.{statement}
 use Rattle.findings.proofs.search.search.Tie as tie
 
-returns : tie.Need-returns
-unfolding mostRows
-returns c = absurd (omega (arith, c .before .if1 .taken, c .before .before .before .before .before .pre .0))
-
-returns-2 : tie.Need-returns-2
-returns-2 c = absurd (omega (arith, c .before .if2 .taken, c .before .before .before .before .before .before .pre .1))
-
 list-requires : tie.Need-list-requires
 unfolding mostRows
-list-requires c κs = let s = c .before .before .before .before .before .before .before in unlisted (s .args .commands .now) (s .args .generations .now) (s .pre .0) (s .pre .1)
+list-requires c κs = let s = c .before .before .before .before .before in unlisted (s .args .commands .now) (s .args .generations .now) (s .pre .0) (s .pre .1)
 
 search-rows-requires : tie.Need-search-rows-requires
-search-rows-requires c κs = (c .before .before .before .before .before .before .before .before .before .before .before .before .pre .1, c .before .before .before .before .list .ensures)
+search-rows-requires c κs = (c .before .before .before .before .before .before .before .before .before .before .pre .1, c .before .before .before .before .list .ensures)
 
 pub search-spec : {M : Type 1} → statement M
 unfolding mostRows
 search-spec =
     tie.close
     (tie.spec
-    (λ c κs. search needs)
-    returns
-    (λ c κs. search needs)
-    returns-2
     (λ c. search needs)
     (λ c. search needs)
     list-requires
