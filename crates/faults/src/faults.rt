@@ -127,7 +127,7 @@ fn both_there(m: usize, n: usize, i: usize, j: usize) -> bool
     (m <= Table::ROWS) & (m <= n) & (i < m) & (j < m)
 }
 
-// Is the pair of outer number i and inner number j such a fault?
+// Is the pair of outer number i and inner number j such a fault? The kind is looked at first: a walk then has a loop for each, in which nothing that is the same for all pairs is done again.
 pub fn is_fault(
     fault: Fault,
     commands: &[u32],
@@ -139,11 +139,19 @@ pub fn is_fault(
 ) -> bool
     ensures { λ r. ⌜ r ≡ isFault (now (heads .entry)) (now (commands .entry)) (now (generations .entry)) (now (relation .entry)) fault i j ⌝ }
 {
-    if !both_there(commands.len() / 3, generations.len(), i, j) {
-        return false;
-    }
+    let there = both_there(commands.len() / 3, generations.len(), i, j);
     match fault {
-        Fault::Reuse => is_reuse(commands, generations, relation, heads, j, i),
-        Fault::Race => is_race(commands, relation, heads, i, j),
+        Fault::Reuse => {
+            if !there {
+                return false;
+            }
+            is_reuse(commands, generations, relation, heads, j, i)
+        }
+        Fault::Race => {
+            if !there {
+                return false;
+            }
+            is_race(commands, relation, heads, i, j)
+        }
     }
 }
