@@ -1,3 +1,3 @@
--- Read in this order: Faults (reuse faults, races, their order); Tests (what `is_fault` answers of any numbers, by the heads of the rows).
+-- Read in this order: Faults (reuse faults, races, their order); Tests (what `is_fault` answers, of what is seen of two commands).
 pub mod Faults
 pub mod Tests

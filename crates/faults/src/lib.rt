@@ -2,5 +2,6 @@
 mod faults; // the reuse and race tests
 
 pub use faults::Fault;
+pub use faults::Seen;
 pub use faults::is_fault;
 pub use faults::pair_of;

@@ -19,7 +19,8 @@ use Rattle.sheet.proofs.Sheets.{addAll-total}
 use Rattle.faults.specs.declared.faults.Fault.{Fault}
 use Rattle.faults.specs.declared.faults.Fault.the-variants.{Reuse, Race}
 use Rattle.faults.specs.Faults.{pairOf, alongRow}
-use Rattle.faults.specs.Tests.{isFault}
+use Rattle.faults.specs.Tests.{seenAt}
+use Rattle.findings.specs.Searches.{faultAt}
 use Rattle.findings.specs.Lists.{listed, key, wanted, Next, Lists, Candidate, Unlisted}
 use Rattle.faults.proofs.Searched.{along-none, along-found, along-passed, row-length}
 use Rattle.faults.proofs.Tests.{found-reuse, found-race}
@@ -111,14 +112,14 @@ module _ (f : Fault) (commands generations fronts nexts : List ℕ) (d : ℕ) (L
 -- ---- candidates
 
 -- a fault pairs commands that are listed, and the inner one is in the list that the outer one wants
-found-listed : (f : Fault) (heads commands generations relation : List ℕ) (i j : ℕ) → isFault heads commands generations relation f i j ≡ true
+found-listed : (f : Fault) (heads commands generations relation : List ℕ) (i j : ℕ) → faultAt heads commands generations relation f i j ≡ true
     → (listed f commands i ≡ true) × (listed f commands j ≡ true) × (key f commands generations j ≡ wanted f commands generations i)
-unfolding mostRows barriers
+unfolding faultAt mostRows barriers
 found-listed Reuse heads commands generations relation i j e =
-    let (ri, rj, p, q) = found-reuse heads commands generations relation i j e in
+    let (ri, rj, p, q) = found-reuse relation (rows commands) (seenAt heads commands generations i) (seenAt heads commands generations j) e in
     (ri, rj, omega arith)
 found-listed Race heads commands generations relation i j e =
-    let (_, x, y, p) = found-race heads commands generations relation i j e in
+    let (_, x, y, p) = found-race relation (rows commands) (seenAt heads commands generations i) (seenAt heads commands generations j) e in
     (x, y, ap (λ (n : ℕ). n % mostRows) (sym p))
 
 module _ {commands generations : List ℕ} {i a n : ℕ} where
@@ -139,6 +140,7 @@ module _ {commands generations : List ℕ} {i a n : ℕ} where
 
   -- races go upward: no number up to i is paired with it
   pub candidate-above : Next Race commands generations (wanted Race commands generations i) (i + 1) n → Candidate Race commands generations i a n
+  unfolding faultAt
   candidate-above X =
       record {
         here = X .here;
@@ -146,7 +148,7 @@ module _ {commands generations : List ℕ} {i a n : ℕ} where
             by-cases (decLt i j)
             (λ (m : i < j).
             isnt _ (λ e. let (_, s, k) = found-listed Race heads commands generations relation i j e in X .none j (omega arith) lj l s k))
-            (λ (m : ¬ (i < j)). isnt _ (λ e. m (found-race heads commands generations relation i j e .0)));
+            (λ (m : ¬ (i < j)). isnt _ (λ e. m (found-race relation (rows commands) (seenAt heads commands generations i) (seenAt heads commands generations j) e .0)));
       }
 
 -- ---- the walk
@@ -160,11 +162,11 @@ skip found to a (suc b) l n =
 
 module _ (heads commands generations relation : List ℕ) (f : Fault) (i : ℕ) where
   abbrev found : ℕ → Bool
-  found = isFault heads commands generations relation f i
+  found = faultAt heads commands generations relation f i
 
   -- the pairs of i with the numbers below j
   abbrev pub below : ℕ → List Pair
-  below j = alongRow (isFault heads commands generations relation f i) (pairOf f i) (min j (rows commands))
+  below j = alongRow (faultAt heads commands generations relation f i) (pairOf f i) (min j (rows commands))
 
   pub below-few : (j : ℕ) → length (below j) ≤ j
   below-few j = omega (arith, row-length found (pairOf f i) (min j (rows commands)))

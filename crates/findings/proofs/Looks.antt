@@ -2,7 +2,7 @@
 use mathlib.Core.Path.{_≡_, refl, sym, ap, _∙_}
 use mathlib.Core.Logic.{_≢_}
 use mathlib.Core.List.{List, [], _∷_}
-use Prim.Native.Nat.{ℕ, _≤_}
+use Prim.Native.Nat.{ℕ}
 use native.Mathlib.Omega.{arith}
 use lib.ListN.{length, getD}
 use Rattle.tables.specs.Rows.{rows}
@@ -17,12 +17,11 @@ use Rattle.sheet.specs.Sheet.{mostKept, pair, firsts, sheetOf}
 use Rattle.faults.specs.declared.faults.Fault.{Fault}
 use Rattle.faults.specs.declared.faults.Fault.the-variants.{Reuse, Race}
 use Rattle.faults.specs.Faults.{faults}
-use Rattle.faults.specs.Tests.{isFault}
 use Rattle.faults.proofs.Pairs.{all-faults}
 use Rattle.faults.proofs.Tests.{is-faulty}
 use Rattle.findings.specs.declared.finding.Finding.{Finding}
 use Rattle.findings.specs.Findings.{firstPair}
-use Rattle.findings.specs.Searches.{allFound, Found, Looked, LookedBy, LookedOver}
+use Rattle.findings.specs.Searches.{faultAt, allFound, Found, Looked, LookedBy, LookedOver}
 
 -- ---- one kind
 
@@ -59,10 +58,14 @@ looked-race (p ∷ ps) qs F h G = absurd (omega (arith, ap (λ (s : Sheet). s .t
 
 -- ---- by the lengths
 
-pub looked-over : {commands lengths heads : List ℕ} → Keeps commands lengths → Headed lengths heads → (generations relation : List ℕ)
-    → rows commands ≤ length generations → {r : Finding} → LookedBy heads commands generations relation r → LookedOver commands lengths generations relation r
-looked-over {commands} {lengths} {heads} K H generations relation whole L =
+found-faults : {commands lengths heads : List ℕ} → Keeps commands lengths → Headed lengths heads → (generations relation : List ℕ) (f : Fault)
+    → allFound heads commands generations relation f ≡ faults commands lengths (numberAt generations) (related relation (rows commands)) f
+unfolding faultAt
+found-faults {commands} {lengths} {heads} K H generations relation f =
+    all-faults commands lengths (numberAt generations) (related relation (rows commands)) f (faultAt heads commands generations relation f) (is-faulty K H generations relation f)
+
+pub looked-over : {commands lengths heads : List ℕ} → Keeps commands lengths → Headed lengths heads → (generations relation : List ℕ) {r : Finding}
+    → LookedBy heads commands generations relation r → LookedOver commands lengths generations relation r
+looked-over K H generations relation L =
+    let same = found-faults K H generations relation in
     record { verdict = rw (← same Reuse, ← same Race) (L .verdict); sheet = rw (← same Reuse, ← same Race) (L .sheet) }
-  where
-    same : (f : Fault) → allFound heads commands generations relation f ≡ faults commands lengths (numberAt generations) (related relation (rows commands)) f
-    same f = all-faults commands lengths (numberAt generations) (related relation (rows commands)) f (isFault heads commands generations relation f) (is-faulty K H generations relation whole f)

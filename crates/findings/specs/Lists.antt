@@ -12,7 +12,7 @@ use Rattle.replay.specs.Step.{registers}
 use Rattle.rooms.specs.Rooms.{numberAt}
 use Rattle.faults.specs.declared.faults.Fault.{Fault}
 use Rattle.faults.specs.declared.faults.Fault.the-variants.{Reuse, Race}
-use Rattle.faults.specs.Tests.{isFault}
+use Rattle.findings.specs.Searches.{faultAt}
 
 -- such a fault can pair command c
 abbrev pub listed : Fault → List ℕ → ℕ → Bool
@@ -50,7 +50,7 @@ pub record Lists (f : Fault) (commands generations fronts nexts : List ℕ) (c :
 -- n is the first number from a on that can be paired with outer number i: those before it are no faults, whatever the heads and whatever reaches what
 pub record Candidate (f : Fault) (commands generations : List ℕ) (i a n : ℕ) : Type 0 where
   pub here : n < rows commands → (listed f commands n ≡ true) × (key f commands generations n ≡ wanted f commands generations i)
-  pub none : (heads relation : List ℕ) (j : ℕ) → a ≤ j → j < rows commands → j < n → isFault heads commands generations relation f i j ≡ false
+  pub none : (heads relation : List ℕ) (j : ℕ) → a ≤ j → j < rows commands → j < n → faultAt heads commands generations relation f i j ≡ false
 
 -- what a walk from outer number i asks for: its row is there, all generations, and the lists of all commands
 pub record Walks (f : Fault) (commands generations fronts nexts : List ℕ) (i : ℕ) : Type 0 where

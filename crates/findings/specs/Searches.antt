@@ -1,5 +1,6 @@
--- What the parts of the search promise: the pairs that `is_fault` finds by the heads of the rows, and what their sheet tells.
+-- What the parts of the search promise: the pairs that the tests find by the heads of the rows, and what their sheet tells.
 use mathlib.Core.Path.{_≡_}
+use mathlib.Core.Bool.{Bool}
 use mathlib.Core.List.{List}
 use Prim.Native.Nat.{ℕ}
 use Rattle.tables.specs.Rows.{rows}
@@ -12,18 +13,23 @@ use Rattle.sheet.specs.Sheet.{sheetOf}
 use Rattle.faults.specs.declared.faults.Fault.{Fault}
 use Rattle.faults.specs.declared.faults.Fault.the-variants.{Reuse, Race}
 use Rattle.faults.specs.Faults.{alongRow, allRows, pairOf, faults}
-use Rattle.faults.specs.Tests.{isFault}
+use Rattle.faults.specs.Tests.{seenAt, isFault}
 use Rattle.findings.specs.declared.finding.Finding.{Finding}
 use Rattle.findings.specs.Findings.{firstPair, orPairs}
+
+-- the test of outer number i and inner number j, by the heads of the rows
+unfoldable pub faultAt : List ℕ → List ℕ → List ℕ → List ℕ → Fault → ℕ → ℕ → Bool
+faultAt heads commands generations relation f i j =
+    isFault relation (rows commands) f (seenAt heads commands generations i) (seenAt heads commands generations j)
 
 module _ (heads commands generations relation : List ℕ) (f : Fault) where
   -- the pairs of outer number i
   abbrev pub rowFound : ℕ → List Pair
-  rowFound i = alongRow (isFault heads commands generations relation f i) (pairOf f i) (rows commands)
+  rowFound i = alongRow (faultAt heads commands generations relation f i) (pairOf f i) (rows commands)
 
   -- all pairs, in their order
   abbrev pub allFound : List Pair
-  allFound = allRows (isFault heads commands generations relation f) (pairOf f) (rows commands) (rows commands)
+  allFound = allRows (faultAt heads commands generations relation f) (pairOf f) (rows commands) (rows commands)
 
 -- the number of a fault's verdict
 abbrev pub faultNumber : Fault → ℕ

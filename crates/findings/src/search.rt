@@ -9,8 +9,8 @@ ghost use Rattle.findings.specs.Searches.{rowFound, allFound};
 ghost use Rattle.findings.specs.Lists.{Lists, Walks};
 use crate::lists::first_candidate;
 use crate::lists::list;
+use crate::seen::fault_at;
 use faults::Fault;
-use faults::is_fault;
 use faults::pair_of;
 use sheet::Sheet;
 use sheet::with_pair;
@@ -34,7 +34,7 @@ fn count_row(
     let mut count = 0;
     let mut j = first_candidate(fault, commands, generations, fronts, nexts, i);
     while j < m {
-        if is_fault(fault, commands, generations, relation, heads, i, j) {
+        if fault_at(fault, commands, generations, relation, heads, i, j) {
             count += 1;
         }
         j = nexts[j];
@@ -61,7 +61,7 @@ fn keep_row(
     let mut found = sheet;
     let mut j = first_candidate(fault, commands, generations, fronts, nexts, i);
     while j < m {
-        if is_fault(fault, commands, generations, relation, heads, i, j) {
+        if fault_at(fault, commands, generations, relation, heads, i, j) {
             if found.total < Sheet::KEPT {
                 found = with_pair(found, pair_of(fault, i, j));
             } else {

@@ -1,23 +1,12 @@
 -- The tests, in one conjunction. Assumes nothing.
 use mathlib.Core.Bool.{and-assoc}
-use Rattle.faults.specs.Faults.{conflict}
-use borrow.Author.Needs.{needs}
+use Rattle.faults.specs.Tests.{conflictBy}
 use Rattle.faults.proofs.faults.conflict.Statement.{statement}
 use Rattle.faults.proofs.faults.conflict.Tie as tie
 
 returns : tie.Need-returns
-unfolding conflict
-returns c = simp (and-assoc, c .same-name .ensures)
+unfolding conflictBy
+returns c = simp and-assoc
 
 pub conflict-spec : {M : Type 1} → statement M
-conflict-spec =
-    tie.close
-    (tie.spec
-    (λ c. search needs)
-    (λ c. search needs)
-    (λ c. search needs)
-    (λ c. search needs)
-    (λ c. search needs)
-    (λ c. search needs)
-    (λ c κs. search needs)
-    returns)
+conflict-spec = tie.close (tie.spec returns)

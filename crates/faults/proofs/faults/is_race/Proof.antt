@@ -1,7 +1,6 @@
 -- The tests, one after the other. Assumes nothing.
 use mathlib.Core.Path.{sym, _∙_}
 use borrow.Author.Tests.{lt-ltb, le-ltb, eq-eqb, ne-eqb, not-true, not-false}
-use Rattle.tables.specs.Limits.{mostRows}
 use Rattle.faults.specs.Tests.{raceBy}
 use borrow.Author.Needs.{needs}
 use Rattle.faults.proofs.faults.is_race.Statement.{statement}
@@ -37,20 +36,4 @@ returns-4 c =
     )
 
 pub is-race-spec : {M : Type 1} → statement M
-unfolding mostRows
-is-race-spec =
-    tie.close
-    (tie.spec
-    returns
-    (λ c κs. search needs)
-    returns-2
-    (λ c. search needs)
-    (λ c. search needs)
-    (λ c. search needs)
-    (λ c. search needs)
-    returns-3
-    (λ c. search needs)
-    (λ c. search needs)
-    (λ c. search needs)
-    (λ c κs. search needs)
-    returns-4)
+is-race-spec = tie.close (tie.spec returns (λ c κs. search needs) returns-2 returns-3 (λ c κs. search needs) returns-4)

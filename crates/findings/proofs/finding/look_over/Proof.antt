@@ -19,7 +19,7 @@ returns c =
     let s = h .before .before .before .before .before .before in
     let K = s .pre .0 in
     looked-over K (headed (omega (arith, K .adds-up, K .few-rows, length-replicate {A = ℕ} 512 0)) (h .put-heads .ensures))
-    (s .args .generations .now) (s .args .relation .now) (s .pre .1) (c .look .ensures)
+    (s .args .generations .now) (s .args .relation .now) (c .look .ensures)
 
 pub look-over-spec : {M : Type 1} → statement M
 look-over-spec = tie.close (tie.spec (λ c. search needs) (λ c κs. search needs) look-requires returns)

@@ -49,7 +49,7 @@ loop-again c =
     let a = s .args in
     let l = c .before .before .before .before .loop in
     let W = walk-on (a .heads .now) (a .commands .now) (a .generations .now) (a .relation .now) (a .fault) (a .i) (s .pre .lists) (l .j) (c .before .before .before .loop-test .taken) (l .inv .1) in
-    let e = sym (c .before .before .is-fault .ensures) in (
+    let e = sym (c .before .before .fault-at .ensures) in (
       ⊎-elim (λ w. w .1 ∙ one-counted (below (a .heads .now) (a .commands .now) (a .generations .now) (a .relation .now) (a .fault) (a .i) (l .j)) _ (pairOf (a .fault) (a .i) (l .j)) (l .inv .0) (W .more (e ∙ w .0 .taken)))
           (λ w. w .1 ∙ l .inv .0 ∙ ap (λ (ps : List Pair). length ps) (sym (W .same (e ∙ w .0 .left))))
           (c .before .if1 .came),

@@ -51,7 +51,7 @@ loop-again c =
     let h = c .before .before .before .loop-test .taken in
     let W = walk-on (a .heads .now) (a .commands .now) (a .generations .now) (a .relation .now) (a .fault) (a .i) (s .pre .1 .lists) (l .j) h (l .inv .1) in
     let p = pairOf (a .fault) (a .i) (l .j) in
-    let e = sym (c .before .before .is-fault .ensures) in
+    let e = sym (c .before .before .fault-at .ensures) in
     let few = total-low (a .heads .now) (a .commands .now) (a .generations .now) (a .relation .now) (a .fault) (a .i) (a .sheet) (l .found) (l .j) (l .inv .0) in (
       ⊎-elim (λ w. w .5 ∙ w .4 .ensures ∙ ap (added (l .found)) (w .3 .ensures) ∙ one-added (below (a .heads .now) (a .commands .now) (a .generations .now) (a .relation .now) (a .fault) (a .i) (l .j)) _ p (a .sheet) (l .inv .0) (W .more (e ∙ w .0 .taken)))
           (⊎-elim

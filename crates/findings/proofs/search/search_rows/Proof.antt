@@ -7,14 +7,14 @@ use Rattle.tables.specs.Limits.{mostRows}
 use Rattle.tables.specs.Rows.{rows}
 use Rattle.sheet.specs.Sheet.{mostKept, sheetOf}
 use Rattle.faults.specs.Faults.{pairOf, allRows}
-use Rattle.faults.specs.Tests.{isFault}
+use Rattle.findings.specs.Searches.{faultAt}
 use Rattle.findings.proofs.Searching.{all-begun, total-few, row-empty, row-kept, row-counted}
 use borrow.Author.Needs.{needs}
 use Rattle.findings.proofs.search.search_rows.Statement.{statement}
 use Rattle.findings.proofs.search.search_rows.Tie as tie
 
 abbrev Inv-loop : tie.InvT-loop
-Inv-loop fault commands generations relation heads fronts nexts m found₀ i₀ found i = (i ≤ rows commands) × (found ≡ sheetOf (allRows (isFault heads commands generations relation fault) (pairOf fault) (rows commands) i))
+Inv-loop fault commands generations relation heads fronts nexts m found₀ i₀ found i = (i ≤ rows commands) × (found ≡ sheetOf (allRows (faultAt heads commands generations relation fault) (pairOf fault) (rows commands) i))
 
 abbrev μ-loop : tie.MeasureT-loop
 μ-loop fault commands generations relation heads fronts nexts m found₀ i₀ found i = rows commands - i
@@ -22,7 +22,7 @@ abbrev μ-loop : tie.MeasureT-loop
 loop-holds : tie.Need-loop-holds Inv-loop μ-loop
 loop-holds c =
     let a = c .before .before .before .before .args in
-    (search needs, c .empty .ensures ∙ all-begun (isFault (a .heads .now) (a .commands .now) (a .generations .now) (a .relation .now) (a .fault)) (pairOf (a .fault)) (rows (a .commands .now)))
+    (search needs, c .empty .ensures ∙ all-begun (faultAt (a .heads .now) (a .commands .now) (a .generations .now) (a .relation .now) (a .fault)) (pairOf (a .fault)) (rows (a .commands .now)))
 
 keep-row-requires : tie.Need-keep-row-requires Inv-loop μ-loop
 unfolding mostRows
@@ -32,7 +32,7 @@ keep-row-requires c κs =
     let l = c .before .before .before .before .before .loop in
     let n = c .before .before .before .count-row in
     let low = c .before .before .before .before .loop-test .taken in (
-      omega (arith, total-few (isFault (a .heads .now) (a .commands .now) (a .generations .now) (a .relation .now) (a .fault)) (pairOf (a .fault)) (rows (a .commands .now)) (l .found) (l .found) (l .i) (n .result) (s .pre .1 .few) low (l .inv .1) (n .ensures)),
+      omega (arith, total-few (faultAt (a .heads .now) (a .commands .now) (a .generations .now) (a .relation .now) (a .fault)) (pairOf (a .fault)) (rows (a .commands .now)) (l .found) (l .found) (l .i) (n .result) (s .pre .1 .few) low (l .inv .1) (n .ensures)),
       record { there = low; whole = s .pre .0; lists = s .pre .1 },
     )
 
@@ -42,7 +42,7 @@ add-found c =
     let s = c .before .before .before .before .before .before .before .before .before .before .before in
     let a = s .args in
     let l = c .before .before .before .before .before .before .loop in
-    omega (arith, total-few (isFault (a .heads .now) (a .commands .now) (a .generations .now) (a .relation .now) (a .fault)) (pairOf (a .fault)) (rows (a .commands .now)) (l .found) (l .found) (l .i) (c .before .before .before .before .count-row .result) (s .pre .1 .few) (c .before .before .before .before .before .loop-test .taken) (l .inv .1) (c .before .before .before .before .count-row .ensures))
+    omega (arith, total-few (faultAt (a .heads .now) (a .commands .now) (a .generations .now) (a .relation .now) (a .fault)) (pairOf (a .fault)) (rows (a .commands .now)) (l .found) (l .found) (l .i) (c .before .before .before .before .count-row .result) (s .pre .1 .few) (c .before .before .before .before .before .loop-test .taken) (l .inv .1) (c .before .before .before .before .count-row .ensures))
 
 loop-again : tie.Need-loop-again Inv-loop μ-loop
 unfolding mostKept
@@ -54,9 +54,9 @@ loop-again c =
     let low = c .before .before .loop-test .taken in
     let few = s .pre .1 .few in (
       search needs,
-      ⊎-elim (λ w. w .4 ∙ row-kept (isFault (a .heads .now) (a .commands .now) (a .generations .now) (a .relation .now) (a .fault)) (pairOf (a .fault)) (rows (a .commands .now)) (l .found) (w .3 .result) (l .i) (n .result) few low (l .inv .1) (n .ensures) (w .3 .ensures))
-          (⊎-elim (λ w. w .4 ∙ row-counted (isFault (a .heads .now) (a .commands .now) (a .generations .now) (a .relation .now) (a .fault)) (pairOf (a .fault)) (rows (a .commands .now)) (l .found) (l .found) (l .i) (n .result) few low (l .inv .1) (n .ensures) (w .2 .left))
-          (λ w. w .1 ∙ row-empty (isFault (a .heads .now) (a .commands .now) (a .generations .now) (a .relation .now) (a .fault)) (pairOf (a .fault)) (rows (a .commands .now)) (l .found) (l .found) (l .i) (n .result) few low (l .inv .1) (n .ensures) (w .0 .left)))
+      ⊎-elim (λ w. w .4 ∙ row-kept (faultAt (a .heads .now) (a .commands .now) (a .generations .now) (a .relation .now) (a .fault)) (pairOf (a .fault)) (rows (a .commands .now)) (l .found) (w .3 .result) (l .i) (n .result) few low (l .inv .1) (n .ensures) (w .3 .ensures))
+          (⊎-elim (λ w. w .4 ∙ row-counted (faultAt (a .heads .now) (a .commands .now) (a .generations .now) (a .relation .now) (a .fault)) (pairOf (a .fault)) (rows (a .commands .now)) (l .found) (l .found) (l .i) (n .result) few low (l .inv .1) (n .ensures) (w .2 .left))
+          (λ w. w .1 ∙ row-empty (faultAt (a .heads .now) (a .commands .now) (a .generations .now) (a .relation .now) (a .fault)) (pairOf (a .fault)) (rows (a .commands .now)) (l .found) (l .found) (l .i) (n .result) few low (l .inv .1) (n .ensures) (w .0 .left)))
           (c .if1 .came),
     )
 
