@@ -26,9 +26,13 @@ fn succeeds(c1: Seen, c2: Seen) -> bool
     ensures { λ r. ⌜ r ≡ succeedsBy c1 c2 ⌝ }
 {
     let both = (Table::ARRIVE <= c1.kind) & (Table::ARRIVE <= c2.kind);
-    let same_barrier = c1.name == c2.name;
-    let next = c1.generation as u64 + 1 == c2.generation as u64;
-    both & same_barrier & next
+    if c1.name != c2.name {
+        return false;
+    }
+    if c1.generation as u64 + 1 != c2.generation as u64 {
+        return false;
+    }
+    both
 }
 
 // Is (c1, c2) a reuse fault? Unless its head is a row before it c2 is first, so that past the test there is a row before c2.
