@@ -1,5 +1,5 @@
 -- The pairs that are listed are edges of happens-before, and reach as far as all of them. Assumes nothing.
-use mathlib.Core.Path.{_≡_, refl, sym, ap, subst, _∙_}
+use mathlib.Core.Path.{_≡_, refl, sym, ap, _∙_}
 use mathlib.Core.Logic.{_⊎_, inl, inr, ⊎-elim, by-cases, _≢_}
 use mathlib.Core.Bool.{Bool, true, false, not}
 use mathlib.Core.List.{List}
@@ -23,7 +23,6 @@ use Rattle.relation.proofs.Rooms.{wrote, holds-map}
 use Rattle.schedules.specs.Order.{Edge, along, meets}
 use Rattle.schedules.proofs.Table.{edge-low}
 use Rattle.replay.specs.Program.{program}
-use Rattle.replay.specs.Step.{registers, syncs}
 use Rattle.rooms.specs.Rooms.{numberAt, Roomy}
 use Rattle.sweeps.specs.Pairs.{pairCount, PairBetween, PairIn}
 use Rattle.order.specs.Order.{Reached}
@@ -132,9 +131,6 @@ module _ (commands generations heads leaders : List ℕ) where
   draws-three c l e i k (next f) = inr (record { found = f; from = refl; to = refl })
   draws-three c l e i k (to f) = inl (inr (record { found = rw e f; from = refl; to = sym e }))
   draws-three c l e i k (from f) = inl (inl (record { found = rw e f; from = sym e; to = refl }))
-
-  pub below-none : (i k : ℕ) → DrawsBelow commands generations heads leaders 0 i k → ⊥
-  below-none i k B = omega (arith, B .low)
 
   pub below-more : (c i k : ℕ) → DrawsBelow commands generations heads leaders c i k ⊎ Draws commands generations heads leaders c i k
       → DrawsBelow commands generations heads leaders (c + 1) i k

@@ -1,41 +1,22 @@
--- The tests of an edge, and what a room holds that holds happens-before. Assumes nothing.
-use mathlib.Core.Path.{_≡_, sym, ap, _∙_}
-use mathlib.Core.Logic.{_⊎_, inl, inr, _≢_}
-use mathlib.Core.Bool.{true, false, not, and-false}
+-- What a room holds that holds happens-before. Assumes nothing.
+use mathlib.Core.Path.{_≡_, sym}
 use mathlib.Core.List.{List}
-use Prim.Native.Nat.{ℕ, suc, _+_, _≤_, _<_}
-use native.Mathlib.Numerals.{add-one}
+use Prim.Native.Nat.{ℕ, _≤_, _<_}
 use native.Mathlib.Omega.{arith}
-use lib.Dec.{eqb}
 use lib.ListN.{length}
-use borrow.Author.Tests.{eq-eqb, ne-eqb}
-use Rattle.tables.specs.Rows.{rows, isFirst}
+use Rattle.tables.specs.Rows.{rows}
 use Rattle.relation.specs.Table.{words, related}
-use Rattle.relation.proofs.Truth.{same-test, pair, left}
+use Rattle.relation.proofs.Truth.{same-test}
 use Rattle.relation.proofs.Chains.{reach-map}
 use Rattle.relation.proofs.Rooms.{holds-related, holds-map}
-use Rattle.schedules.specs.Order.{Reaches, edge, reach}
+use Rattle.schedules.specs.Order.{Reaches, reach}
 use Rattle.schedules.proofs.Table.{decides, edge-alike}
 use Rattle.replay.specs.Program.{program}
-use Rattle.order.specs.Order.{meets, Reached}
-
--- ---- each edge
-
-module _ (commands lengths : List ℕ) (g : ℕ → ℕ) where
-  pub edge-along : (i j : ℕ) → j ≡ i + 1 → isFirst lengths j ≡ false → edge (program commands lengths) g i j ≡ true
-  unfolding edge
-  edge-along i j e f = left _ _ (pair _ _ (eq-eqb j (suc i) (e ∙ add-one i)) (ap not f))
-
-  pub edge-meets : (i j : ℕ) → (j ≢ i + 1) ⊎ (isFirst lengths j ≡ true) → edge (program commands lengths) g i j ≡ meets commands g i j
-  unfolding edge
-  edge-meets i j (inl u) = rw (ne-eqb j (suc i) (λ e. u (e ∙ sym (add-one i))))
-  edge-meets i j (inr t) = rw (t, and-false (eqb j (suc i)))
+use Rattle.order.specs.Order.{Reached}
 
 module _ (commands lengths : List ℕ) (g : ℕ → ℕ) where
   abbrev m : ℕ
   m = rows commands
-
-  -- ---- what a room holds that holds happens-before
 
   pub related-reaches : (b a : List ℕ) → Reached commands lengths g b a → words m ≤ length b → (i j : ℕ) → i < m → j < m
       → related a m i j ≡ reach (program commands lengths) g i j

@@ -1,7 +1,4 @@
 -- The row is past the end, or its head tells. Assumes nothing.
-use mathlib.Core.Path.{_≡_, sym, ap, _∙_}
-use mathlib.Core.Bool.{not}
-use native.Mathlib.Omega.{arith}
 use borrow.Author.Tests.{lt-ltb, le-ltb}
 use Rattle.tables.specs.Limits.{mostRows}
 use borrow.Author.Needs.{needs}

@@ -2,7 +2,6 @@
 use mathlib.Core.Path.{sym, _∙_}
 use native.Mathlib.Omega.{arith}
 use borrow.Author.Needs.{needs}
-use Rattle.tables.specs.Limits.{mostRows}
 use Rattle.tables.specs.Rows.{rows}
 use Rattle.order.proofs.Leading.{meets-parts}
 use Rattle.order.proofs.Drawing.{adds-join, adds-map, follows-low, three-draws, draws-three}

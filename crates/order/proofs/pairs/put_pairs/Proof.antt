@@ -6,7 +6,7 @@ use native.Mathlib.Omega.{arith}
 use Rattle.tables.specs.Limits.{mostRows}
 use Rattle.tables.specs.Rows.{rows}
 use Rattle.order.specs.Draws.{DrawsBelow, Adds}
-use Rattle.order.proofs.Drawing.{adds-none, adds-join, adds-map, below-none, below-more, more-below}
+use Rattle.order.proofs.Drawing.{adds-none, adds-join, adds-map, below-more, more-below}
 use borrow.Author.Needs.{needs}
 use Rattle.order.proofs.pairs.put_pairs.Statement.{statement}
 use Rattle.order.proofs.pairs.put_pairs.Tie as tie
