@@ -20,7 +20,7 @@ use Rattle.replay.specs.State.{start}
 use Rattle.replay.specs.Step.{allowed, registering, running, stepped}
 use Rattle.replay.specs.Replay.{playing, played}
 use Rattle.replay.specs.Ending.{ended, judged}
-use Rattle.replay.specs.Writer.{lowestFirst, schedule}
+use Rattle.replay.specs.Writer.{stepping, scheduleBy, schedule}
 use Rattle.sheet.specs.Sheet.{mostKept, firsts, sheetOf}
 use Rattle.faults.specs.Faults.{succeeds, reuse, conflict, race, alongRow, allRows, faults}
 use Rattle.rooms.specs.Refusals.{refused}
@@ -34,7 +34,7 @@ pub every : reported reports ≡ true
 unfolding reports reported
     mostRows mostThreads addresses barriers mostCount total firstRow threadOf lowest rowKeeps firstBad checked rounds width edge reach
     classOf run sameBytes mostNumber decimal numeralOf cutsN flat found wordOf markOf pieceOf tokenMoves mostBytes judgedOf tooMany reading
-    start allowed registering running stepped playing played ended judged lowestFirst schedule mostKept firsts sheetOf
+    start allowed registering running stepped playing played ended judged stepping scheduleBy schedule mostKept firsts sheetOf
     succeeds reuse conflict race alongRow allRows faults refused verdictOf
     figuresTo figures ofTables ofText twoNumbers verdictLine totalLine pairLines report
 every = refl

@@ -49,7 +49,7 @@ probe-schedule-one {commands} {lengths} {room} {answer} A B =
     (λ (h : ¬ (length answer < answerRoom)).
     let (r, R, p, t) = A .wrote (omega arith) in
     let (r′, R′, p′, t′) = B .wrote (omega arith) in
-    let (e, q) = write-one commands lengths room r r′ R R′ in
+    let (e, q) = write-one _ commands lengths room r r′ R R′ in
     (p ∙ ap (λ (z : Written). numbered (z .verdict) .number) e ∙ sym p′, q, t ∙ ap (λ (z : Written). over (writtenNumbers z) answer) e ∙ sym t′))
 
 pub probe-read-one : {text commands lengths answer ca la aa cb lb ab : List ℕ} {n m : ℕ}

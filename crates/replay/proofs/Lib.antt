@@ -8,6 +8,7 @@ pub mod Fronts
 pub mod Scans
 pub mod Registering
 pub mod Steps
+pub mod Picking
 pub mod Endings
 pub mod Refusals
 pub mod Programs
@@ -24,5 +25,6 @@ pub mod Places
 pub mod Schedules
 pub mod Writing
 pub mod Precede
+pub mod Steering
 pub mod Agreements
 pub mod Unique

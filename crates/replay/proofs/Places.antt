@@ -22,7 +22,7 @@ use Rattle.schedules.proofs.Threads.{stand}
 use Rattle.replay.specs.declared.state.Replay.{Replay}
 use Rattle.replay.specs.State.{start}
 use Rattle.replay.specs.Step.{allowed, stepped}
-use Rattle.replay.specs.Writer.{goesOn, lowestFirst, schedule}
+use Rattle.replay.specs.Writer.{goesOn, stepping, scheduleBy, schedule}
 use Rattle.replay.specs.Ending.{isBlocked, barrierSet, lowestAllowed, lowestBlocked, lowestSet, lastRun, ended, judged}
 use Rattle.replay.specs.Replay.{played}
 use Rattle.replay.specs.Schedules.{stateAfter, Complete, stopped, mismatched}
@@ -122,14 +122,18 @@ module _ (commands lengths : List ℕ) where
   one-more true false t n σ l = omega arith
   one-more false b t n σ l = omega arith
 
-  steps-few : (n : ℕ) (s : Replay) → length (lowestFirst commands lengths n s) ≤ n
-  unfolding lowestFirst
-  steps-few zero s = omega arith
-  steps-few (suc n) s =
-      let t = lowestAllowed lengths s in
+  steps-few : (choose : Replay → ℕ) (n : ℕ) (s : Replay) → length (stepping choose commands lengths n s) ≤ n
+  unfolding stepping
+  steps-few choose zero s = omega arith
+  steps-few choose (suc n) s =
+      let t = choose s in
       let d = stepped commands lengths s t in
-      one-more (ltb t (length lengths)) (goesOn (d .did)) t n (lowestFirst commands lengths n (d .after)) (steps-few n (d .after))
+      one-more (ltb t (length lengths)) (goesOn (d .did)) t n (stepping choose commands lengths n (d .after)) (steps-few choose n (d .after))
+
+  pub schedule-by-few : (choose : Replay → ℕ) → length (scheduleBy choose commands lengths) ≤ rows commands
+  unfolding scheduleBy
+  schedule-by-few choose = steps-few choose (rows commands) start
 
   pub schedule-few : length (schedule commands lengths) ≤ rows commands
   unfolding schedule
-  schedule-few = steps-few (rows commands) start
+  schedule-few = schedule-by-few (lowestAllowed lengths)

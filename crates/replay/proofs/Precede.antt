@@ -20,7 +20,7 @@ use Rattle.replay.proofs.Ties.{has-run}
 use Rattle.replay.proofs.Plays.{Through, legal-part, legal-through}
 
 -- entries that follow stand in front
-goes-aux : (ρ υ : List ℕ) → Goes υ (reverseAux ρ υ)
+pub goes-aux : (ρ υ : List ℕ) → Goes υ (reverseAux ρ υ)
 goes-aux [] υ = stays
 goes-aux (t ∷ ρ) υ = first-more t (goes-aux ρ (t ∷ υ))
 

@@ -61,7 +61,7 @@ module _ (commands lengths : List ℕ) (s : Replay) (t : ℕ) where
   next-row k m = omega (arith, end-most lengths t)
 
   module _ (k : Keeps commands lengths) (e : allowed lengths s t ≡ true) {f : ℕ} (first : f ≡ firstRow lengths (min t mostThreads)) where
-    next : f + ranSoFar s t ≡ command lengths s t
+    pub next : f + ranSoFar s t ≡ command lengths s t
     next =
         let m = may lengths s t e in
         ap (λ (x : ℕ). x + ranSoFar s t) (first ∙ first-within lengths t (omega arith))

@@ -10,14 +10,13 @@ use Rattle.tables.specs.declared.verdict.Verdict.{Verdict}
 use Rattle.tables.proofs.Verdicts.{numbered-one}
 use Rattle.replay.specs.declared.offered.Judged.{Judged}
 use Rattle.replay.specs.declared.writer.Written.{Written}
-use Rattle.replay.specs.Writer.{schedule}
-use Rattle.replay.specs.Doors.{Replays, WritesSchedule}
+use Rattle.replay.specs.Doors.{Replays, Writes}
 
 pub judge-one : (commands lengths σ : List ℕ) (a b : Judged) → Replays commands lengths σ a → Replays commands lengths σ b → a ≡ b
 judge-one commands lengths σ a b A B =
     ap₂ (λ (v : Verdict) (g : List ℕ). record { verdict = v; generations = g }) (numbered-one _ _ (A .verdict ∙ sym (B .verdict))) (A .generations ∙ sym (B .generations))
 
-module _ (commands lengths room : List ℕ) (a b : Written) {ra rb : List ℕ} (A : WritesSchedule commands lengths room ra a) (B : WritesSchedule commands lengths room rb b) where
+module _ (σ commands lengths room : List ℕ) (a b : Written) {ra rb : List ℕ} (A : Writes σ commands lengths room ra a) (B : Writes σ commands lengths room rb b) where
   one-verdict : a .verdict ≡ b .verdict
   one-verdict = numbered-one _ _ (A .verdict ∙ sym (B .verdict))
 
@@ -29,7 +28,7 @@ module _ (commands lengths room : List ℕ) (a b : Written) {ra rb : List ℕ} (
       let y = B .wrote (ap (λ (v : Verdict). numbered v .number) (sym one-verdict) ∙ e) in
       let n : a .length ≡ b .length = x .long ∙ sym (y .long) in (
         ap₂ (λ (v : Verdict) (n : ℕ). record { verdict = v; length = n }) one-verdict n,
-        x .room ∙ ap (λ (n : ℕ). schedule commands lengths ++ drop n room) n ∙ sym (y .room),
+        x .room ∙ ap (λ (n : ℕ). σ ++ drop n room) n ∙ sym (y .room),
       ))
       (λ (f : numbered (a .verdict) .number ≢ 0).
       let x = A .refused f in

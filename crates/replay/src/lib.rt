@@ -1,5 +1,6 @@
 // The replay of an offered schedule, verdicts 5 to 9, and the schedule writer.
 mod barrier; // a barrier and what registering does to it
+mod choice; // which thread a schedule writer lets step
 mod ending; // verdicts 6, 8 and 9: how a replay that went through ended
 mod offered; // the judge of an offered schedule: refusals 1 to 3, then 5 to 9
 mod replay; // a whole schedule, step by step
@@ -10,4 +11,5 @@ mod writer; // the schedule writer
 pub use offered::Judged;
 pub use offered::judge;
 pub use writer::Written;
+pub use writer::write_apart;
 pub use writer::write_schedule;

@@ -1,7 +1,8 @@
-// The schedule writer: always the lowest allowed thread steps.
+// The schedule writers: at each step a thread that is chosen steps.
 ghost use mathlib.Core.Path.{_≡_};
-ghost use Rattle.replay.specs.Writer.{goesOn, Fits, Filled};
-ghost use Rattle.replay.specs.Doors.{WritesSchedule};
+ghost use Rattle.replay.specs.Writer.{goesOn, chosen, scheduleBy, Fits, FilledBy};
+ghost use Rattle.replay.specs.Doors.{WritesSchedule, WritesApart};
+use crate::choice::Choice;
 use crate::state::Replay;
 use crate::step::Did;
 use crate::step::How;
@@ -28,15 +29,21 @@ fn goes_on(did: Did) -> bool
 }
 
 // The schedule into the room, and its length. No schedule has more than M steps.
-fn write(commands: &[u32], lengths: &[u32], room: &mut [u32]) -> usize
+fn write(
+    commands: &[u32],
+    lengths: &[u32],
+    relation: &[u32],
+    choice: Choice,
+    room: &mut [u32],
+) -> usize
     requires { ⌜ Fits (now commands) (now lengths) (now room) ⌝ }
-    ensures { λ r. ⌜ Filled (now (commands .entry)) (now (lengths .entry)) (now (room .entry)) (now (room .exit)) r ⌝ }
+    ensures { λ r. ⌜ FilledBy (scheduleBy (chosen (now (commands .entry)) (now (lengths .entry)) (now (relation .entry)) choice) (now (commands .entry)) (now (lengths .entry))) (now (room .entry)) (now (room .exit)) r ⌝ }
 {
     let m = commands.len() / 3;
     let mut state = Replay::start();
     let mut steps = 0;
     while steps < m {
-        let t = state.lowest_allowed(lengths);
+        let t = state.choose(commands, lengths, relation, choice);
         if t == lengths.len() {
             return steps;
         }
@@ -52,6 +59,7 @@ fn write(commands: &[u32], lengths: &[u32], room: &mut [u32]) -> usize
     steps
 }
 
+// Always the lowest allowed thread steps.
 pub fn write_schedule(commands: &[u32], lengths: &[u32], room: &mut [u32]) -> Written
     ensures { λ r. ⌜ WritesSchedule (now (commands .entry)) (now (lengths .entry)) (now (room .entry)) (now (room .exit)) r ⌝ }
 {
@@ -65,7 +73,36 @@ pub fn write_schedule(commands: &[u32], lengths: &[u32], room: &mut [u32]) -> Wr
             length: 0,
         };
     }
-    let length = write(commands, lengths, room);
+    let length = write(commands, lengths, commands, Choice::Lowest, room);
+    Written {
+        verdict: Verdict::Clean,
+        length,
+    }
+}
+
+// The lowest allowed thread steps whose next command is d, or one that c does not reach in a table of what reaches what; where there is
+// none, the lowest allowed thread.
+pub fn write_apart(
+    commands: &[u32],
+    lengths: &[u32],
+    relation: &[u32],
+    c: u32,
+    d: u32,
+    room: &mut [u32],
+) -> Written
+    ensures { λ r. ⌜ WritesApart (now (commands .entry)) (now (lengths .entry)) (now (relation .entry)) c d (now (room .entry)) (now (room .exit)) r ⌝ }
+{
+    let verdict = check_tables(commands, lengths);
+    if verdict.number().number != 0 {
+        return Written { verdict, length: 0 };
+    }
+    if room.len() < commands.len() / 3 {
+        return Written {
+            verdict: Verdict::ShortRoom(2),
+            length: 0,
+        };
+    }
+    let length = write(commands, lengths, relation, Choice::Apart(c, d), room);
     Written {
         verdict: Verdict::Clean,
         length,

@@ -105,7 +105,7 @@ module _ {table lengths : List ℕ} (K : Keeps table lengths) (σ : List ℕ) wh
 
     -- no reuse fault
     module _ (none : faults table lengths g (reach P g) fault.Reuse ≡ []) where
-      settled : claims.Settled P H (reverse σ)
+      pub settled : claims.Settled P H (reverse σ)
       settled =
           record {
             clean = clean-to K C;

@@ -17,3 +17,5 @@ pub mod Threads
 pub mod Completes
 pub mod Decided
 pub mod Theorems
+pub mod Astray
+pub mod Showing

@@ -4,3 +4,4 @@ pub mod Machine
 pub mod Threads
 pub mod Order
 pub mod Claims
+pub mod Shows

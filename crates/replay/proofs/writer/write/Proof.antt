@@ -7,30 +7,32 @@ use borrow.Author.Needs.{needs}
 use borrow.Author.Tests.{not-true, not-false}
 use Rattle.tables.specs.Limits.{mostThreads}
 use Rattle.tables.specs.Rows.{rows}
+use Rattle.replay.specs.Writer.{chosen}
 use Rattle.replay.proofs.Standing.{standing-counts}
-use Rattle.replay.proofs.Writing.{Writing, writing-start, writing-long, writing-end, writing-none, writing-thread, writing-more, writing-last}
+use Rattle.replay.proofs.Writing.{Writing, chosen-chooses, writing-start, writing-long, writing-end, writing-none, writing-thread, writing-more, writing-last}
 use Rattle.replay.proofs.writer.write.Statement.{statement}
 use Rattle.replay.proofs.writer.write.Tie as tie
 
 abbrev Inv-loop : tie.InvT-loop
-Inv-loop commands lengths room₀ m state₀ steps₀ room state steps = Writing commands lengths room₀ room state steps × (m ≡ rows commands)
+Inv-loop commands lengths relation choice room₀ m state₀ steps₀ room state steps =
+    Writing (chosen commands lengths relation choice) commands lengths room₀ room state steps × (m ≡ rows commands)
 
 abbrev μ-loop : tie.MeasureT-loop
-μ-loop commands lengths room₀ m state₀ steps₀ room state steps = m - steps
+μ-loop commands lengths relation choice room₀ m state₀ steps₀ room state steps = m - steps
 
 loop-holds : tie.Need-loop-holds Inv-loop μ-loop
-loop-holds c = let s = c .before .before .before .before in (rw (c .start .ensures) (writing-start _ _ _ (s .pre .keeps) (s .pre .fits)), refl)
+loop-holds c = let s = c .before .before .before .before .before in (rw (c .start .ensures) (writing-start _ _ _ _ (chosen-chooses _ _ _ _) (s .pre .keeps) (s .pre .fits)), refl)
 
-lowest-allowed-requires : tie.Need-lowest-allowed-requires Inv-loop μ-loop
-lowest-allowed-requires c κs = c .before .loop .inv .0 .standing .keeps .few-threads
+choose-requires : tie.Need-choose-requires Inv-loop μ-loop
+choose-requires c κs = c .before .loop .inv .0 .standing .keeps
 
 same-length : tie.Need-same-length Inv-loop μ-loop
-same-length c = writing-long _ _ _ (c .before .before .before .loop .inv .0)
+same-length c = writing-long _ _ _ _ (c .before .before .before .loop .inv .0)
 
 returns : tie.Need-returns Inv-loop μ-loop
 returns c =
     let l = c .before .before .before .loop in
-    writing-none _ _ _ (l .inv .0) (omega (arith, l .inv .1, c .before .before .loop-test .taken)) _ (c .before .lowest-allowed .ensures) (c .if1 .taken)
+    writing-none _ _ _ _ (l .inv .0) (omega (arith, l .inv .1, c .before .before .loop-test .taken)) _ (c .before .choose .ensures) (c .if1 .taken)
 
 step-requires : tie.Need-step-requires Inv-loop μ-loop
 step-requires c κs = let W = c .before .before .before .loop .inv .0 in (W .standing .keeps, standing-counts (W .standing))
@@ -38,25 +40,25 @@ step-requires c κs = let W = c .before .before .before .loop .inv .0 in (W .sta
 slice-write-room : tie.Need-slice-write-room Inv-loop μ-loop
 slice-write-room c =
     let l = c .before .before .before .loop in
-    omega (arith, writing-long _ _ _ (l .inv .0), l .inv .0 .fits, l .inv .1, c .before .before .loop-test .taken)
+    omega (arith, writing-long _ _ _ _ (l .inv .0), l .inv .0 .fits, l .inv .1, c .before .before .loop-test .taken)
 
 cast-room : tie.Need-cast-room Inv-loop μ-loop
 unfolding mostThreads
 cast-room c =
     let W = c .before .before .before .loop .inv .0 in
-    omega (arith, W .standing .keeps .few-threads, writing-thread _ _ _ W (c .before .lowest-allowed .ensures))
+    omega (arith, W .standing .keeps .few-threads, writing-thread _ _ _ _ W (c .before .choose .ensures))
 
 same-length-2 : tie.Need-same-length-2 Inv-loop μ-loop
 same-length-2 c =
     let l = c .before .before .before .before .before .before .before .loop in
-    length-set (l .room) (l .steps) _ ∙ writing-long _ _ _ (l .inv .0)
+    length-set (l .room) (l .steps) _ ∙ writing-long _ _ _ _ (l .inv .0)
 
 returns-2 : tie.Need-returns-2 Inv-loop μ-loop
 returns-2 c =
     let q = c .before .before .before in
     let w = q .before .before in
     let l = w .before .before .loop in
-    writing-last _ _ _ (l .inv .0) (omega (arith, l .inv .1, w .before .loop-test .taken)) _ (w .lowest-allowed .ensures) (q .before .if1 .left) (q .step .result) (q .step .ensures)
+    writing-last _ _ _ _ (l .inv .0) (omega (arith, l .inv .1, w .before .loop-test .taken)) _ (w .choose .ensures) (q .before .if1 .left) (q .step .result) (q .step .ensures)
     (sym (not-true _ (c .if2 .taken)) ∙ c .before .goes-on .ensures)
 
 loop-again : tie.Need-loop-again Inv-loop μ-loop
@@ -64,16 +66,16 @@ loop-again c =
     let q = c .before .before .before in
     let w = q .before .before in
     let l = w .before .before .loop in (
-      writing-more _ _ _ (l .inv .0) (omega (arith, l .inv .1, w .before .loop-test .taken)) _ (w .lowest-allowed .ensures) (q .before .if1 .left) (q .step .result) (q .step .ensures)
+      writing-more _ _ _ _ (l .inv .0) (omega (arith, l .inv .1, w .before .loop-test .taken)) _ (w .choose .ensures) (q .before .if1 .left) (q .step .result) (q .step .ensures)
           (sym (not-false _ (c .if2 .left)) ∙ c .before .goes-on .ensures),
       l .inv .1,
     )
 
 same-length-3 : tie.Need-same-length-3 Inv-loop μ-loop
-same-length-3 c = writing-long _ _ _ (c .before .loop .inv .0)
+same-length-3 c = writing-long _ _ _ _ (c .before .loop .inv .0)
 
 returns-3 : tie.Need-returns-3 Inv-loop μ-loop
-returns-3 c = let l = c .before .loop in writing-end _ _ _ (l .inv .0) (omega (arith, l .inv .1, c .loop-test .left))
+returns-3 c = let l = c .before .loop in writing-end _ _ _ _ (l .inv .0) (omega (arith, l .inv .1, c .loop-test .left))
 
 pub write-spec : {M : Type 1} → statement M
 write-spec =
@@ -83,7 +85,7 @@ write-spec =
     μ-loop
     (λ c κs. search needs)
     loop-holds
-    lowest-allowed-requires
+    choose-requires
     same-length
     returns
     cast-room

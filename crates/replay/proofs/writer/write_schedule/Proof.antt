@@ -1,6 +1,7 @@
 -- `write_schedule` meets its contract: each refusal from the test that found it, with the room as it was, or the schedule. Assumes nothing.
 use mathlib.Core.Path.{refl, _∙_}
 use borrow.Author.Needs.{needs}
+use Rattle.replay.specs.Writer.{chosen, schedule}
 use Rattle.replay.proofs.Refusals.{number-is, passed, unwritten-tables, unwritten-room, unwritten-none}
 use Rattle.replay.proofs.Writing.{schedule-complete}
 use Rattle.replay.proofs.writer.write_schedule.Statement.{statement}
@@ -35,6 +36,7 @@ write-requires c κs =
     record { keeps = passed _ _ (k .result) (k .ensures) (n .number .ensures) (c .before .before .if1 .left); fits = search needs }
 
 returns-3 : tie.Need-returns-3
+unfolding chosen schedule
 returns-3 c =
     let w = c .before .before in
     let n = w .before .before .before .before .before in

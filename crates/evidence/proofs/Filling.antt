@@ -1,0 +1,56 @@
+-- The room after the schedules of a verdict. Assumes nothing.
+use mathlib.Core.Path.{_≡_, refl, sym, ap, _∙_, subst}
+use mathlib.Core.Logic.{inl, inr, _≢_}
+use mathlib.Core.List.{List, []}
+use Prim.Native.Nat.{ℕ, _*_, _≤_, _<_, min}
+use native.Mathlib.Nat.{mul-le-mul-right}
+use native.Mathlib.Omega.{arith}
+use lib.ListN.{length, getD, take}
+use borrow.Author.Tests.{eq-eqb, ne-eqb}
+use Rattle.tables.specs.Limits.{mostRows}
+use Rattle.tables.specs.Rows.{rows}
+use Rattle.sheet.specs.declared.Sheet.{Sheet}
+use Rattle.sheet.specs.Sheet.{pair, mostKept}
+use Rattle.replay.specs.Writer.{FilledBy, apartSchedule}
+use Rattle.evidence.specs.Evidence.{bothWays, against, kept, firstOf, evidenceOf, PutsAt, FitsAt, FitsAll}
+use Rattle.evidence.specs.Doors.{Showable}
+
+-- what is put from the front fills
+puts-fills : {σ room room′ : List ℕ} {r : ℕ} → PutsAt σ room room′ 0 r → FilledBy σ room room′ r
+puts-fills Q = record { long = omega (arith, Q .ends); room = Q .room }
+
+module _ {commands lengths : List ℕ} {n : ℕ} {s : Sheet} {room : List ℕ} (S : Showable commands lengths n s room) where
+  pub show-low : n ≡ 10 → (getD (s .pairs) 0 (pair 0 0) .first < 512) × (getD (s .pairs) 0 (pair 0 0) .second < 512)
+  unfolding mostRows mostKept
+  show-low e =
+      let (a, b) = S .low (inl e) 0 (omega (arith, S .some e)) in
+      (omega (arith, S .keeps .few-rows), omega (arith, S .keeps .few-rows))
+
+  pub show-one : FitsAt commands lengths room 0
+  show-one = record { keeps = S .keeps; fits = omega (arith, S .fits) }
+
+  pub show-all : n ≡ 11 → {k : ℕ} → k ≡ min (s .total) mostKept → FitsAll commands lengths (s .pairs) k room
+  unfolding mostKept
+  show-all e {k} q =
+      record {
+        keeps = S .keeps;
+        few = omega (arith, S .long);
+        low = λ i l. S .low (inr e) i (omega arith);
+        fits = let l : k ≤ 16 = omega arith in omega (arith, S .fits, mul-le-mul-right {m = k} {n = 16} (rows commands) l);
+      }
+
+module _ (commands lengths relation : List ℕ) (n : ℕ) (s : Sheet) {room room′ : List ℕ} {r : ℕ} where
+  pub show-ten : n ≡ 10 → PutsAt (against commands lengths relation (firstOf s)) room room′ 0 r → FilledBy (evidenceOf commands lengths relation n s) room room′ r
+  unfolding evidenceOf
+  show-ten e Q = rw (eq-eqb n 10 e) (puts-fills Q)
+
+  pub show-eleven : n ≡ 11 → {k : ℕ} → k ≡ min (s .total) mostKept → PutsAt (bothWays commands lengths relation (take k (s .pairs))) room room′ 0 r
+      → FilledBy (evidenceOf commands lengths relation n s) room room′ r
+  unfolding evidenceOf
+  show-eleven e {k} q Q =
+      rw (ne-eqb n 10 (λ z. omega arith), eq-eqb n 11 e)
+      (puts-fills (subst (λ (k : ℕ). PutsAt (bothWays commands lengths relation (take k (s .pairs))) room room′ 0 r) q Q))
+
+pub show-none : (commands lengths relation : List ℕ) (n : ℕ) (s : Sheet) (room : List ℕ) → n ≢ 10 → n ≢ 11 → FilledBy (evidenceOf commands lengths relation n s) room room 0
+unfolding evidenceOf
+show-none commands lengths relation n s room a b = rw (ne-eqb n 10 a, ne-eqb n 11 b) (record { long = refl; room = refl })

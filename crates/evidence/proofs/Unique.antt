@@ -1,0 +1,45 @@
+-- Any two answers that meet the contract of a review with evidence are equal: verdict, sheet, entries and the three rooms. Assumes nothing.
+use mathlib.Core.Path.{_≡_, sym, ap, ap₂, _∙_}
+use mathlib.Core.Logic.{by-cases, _≢_}
+use mathlib.Core.List.{List, _++_}
+use Prim.Native.Nat.{ℕ}
+use native.Mathlib.Decide.{ℕ-discrete}
+use lib.ListN.{length, drop}
+use Rattle.tables.specs.declared.verdict.Verdict.{Verdict}
+use Rattle.tables.proofs.Verdicts.{numbered-one}
+use Rattle.relation.proofs.Rooms.{Words}
+use Rattle.sheet.specs.declared.Sheet.{Sheet}
+use Rattle.findings.specs.declared.finding.Finding.{Finding}
+use Rattle.review.specs.Agreement.{number}
+use Rattle.review.proofs.Unique.{review-one}
+use Rattle.evidence.specs.declared.door.Evidence.{Evidence}
+use Rattle.evidence.specs.Evidence.{evidenceOf}
+use Rattle.evidence.specs.Doors.{refusedToo, Evidenced}
+
+module _ (commands lengths σ relation generations room : List ℕ) (a b : Evidence) {ra ga ea rb gb eb : List ℕ} (wa : Words ra) (wb : Words rb)
+    (A : Evidenced commands lengths σ relation generations room a ra ga ea) (B : Evidenced commands lengths σ relation generations room b rb gb eb) where
+  -- words of 32 bits stand in the relation rooms
+  pub evidence-one : (a ≡ b) × (ra ≡ rb) × (ga ≡ gb) × (ea ≡ eb)
+  evidence-one =
+      by-cases (ℕ-discrete (refusedToo commands lengths (length relation) (length generations) (length room) .number) 0)
+      (λ (z : refusedToo commands lengths (length relation) (length generations) (length room) .number ≡ 0).
+      let (f, q, g) = review-one commands lengths σ relation generations (a .finding) (b .finding) wa wb (A .reviewed z) (B .reviewed z) in
+      let x = A .written z in
+      let y = B .written z in
+      let s = ap₂ (λ (t : List ℕ) (f : Finding). evidenceOf commands lengths t (number f) (f .sheet)) q f in
+      let n : a .entries ≡ b .entries = x .long ∙ ap length s ∙ sym (y .long) in (
+        ap₂ (λ (f : Finding) (n : ℕ). record { finding = f; entries = n }) f n,
+        q,
+        g,
+        x .room ∙ ap₂ (λ (τ : List ℕ) (n : ℕ). τ ++ drop n room) s n ∙ sym (y .room),
+      ))
+      (λ (m : refusedToo commands lengths (length relation) (length generations) (length room) .number ≢ 0).
+      let (d, x) = A .refused m in
+      let (e, y) = B .refused m in
+      let f : a .finding ≡ b .finding =
+      ap₂ (λ (v : Verdict) (s : Sheet). record { verdict = v; sheet = s }) (numbered-one _ _ (d ∙ sym e)) (x .sheet ∙ sym (y .sheet)) in (
+        ap₂ (λ (f : Finding) (n : ℕ). record { finding = f; entries = n }) f (x .entries ∙ sym (y .entries)),
+        x .relation-kept ∙ sym (y .relation-kept),
+        x .generations-kept ∙ sym (y .generations-kept),
+        x .room-kept ∙ sym (y .room-kept),
+      ))

@@ -1,0 +1,98 @@
+// A review with evidence.
+ghost use mathlib.Core.Path.{_≡_};
+ghost use Prim.Native.Nat.{min};
+ghost use Rattle.sheet.specs.Sheet.{mostKept};
+ghost use Rattle.replay.specs.Writer.{FilledBy};
+ghost use Rattle.evidence.specs.Evidence.{evidenceOf};
+ghost use Rattle.evidence.specs.Doors.{Showable, Evidenced};
+use crate::writing::write_at;
+use crate::writing::write_races;
+use findings::Finding;
+use findings::bare;
+use rooms::refuse;
+use review::review;
+use sheet::Sheet;
+use tables::Verdict;
+
+// What a review found, and how many entries of evidence were written.
+pub struct Evidence {
+    pub finding: Finding,
+    pub entries: usize,
+}
+
+fn nothing(finding: Finding) -> Evidence
+    ensures { λ r. ⌜ r ≡ record { finding = finding; entries = 0 } ⌝ }
+{
+    Evidence {
+        finding,
+        entries: 0,
+    }
+}
+
+// So many of the pairs are kept.
+fn how_many(total: usize) -> usize
+    ensures { λ r. ⌜ r ≡ min total mostKept ⌝ }
+{
+    if total < Sheet::KEPT {
+        return total;
+    }
+    Sheet::KEPT
+}
+
+// The schedules that show a verdict, from the front of the room; answers how many entries.
+fn show(
+    commands: &[u32],
+    lengths: &[u32],
+    relation: &[u32],
+    number: u32,
+    sheet: Sheet,
+    room: &mut [u32],
+) -> usize
+    requires { ⌜ Showable (now commands) (now lengths) number sheet (now room) ⌝ }
+    ensures { λ r. ⌜ FilledBy (evidenceOf (now (commands .entry)) (now (lengths .entry)) (now (relation .entry)) number sheet) (now (room .entry)) (now (room .exit)) r ⌝ }
+{
+    let pairs = sheet.pairs;
+    if number == 10 {
+        let pair = pairs[0];
+        let c = pair.first as u32;
+        let d = pair.second as u32;
+        return write_at(commands, lengths, relation, c, d, room, 0);
+    }
+    if number == 11 {
+        let n = how_many(sheet.total);
+        return write_races(commands, lengths, relation, pairs, n, room);
+    }
+    0
+}
+
+// Any tables, any schedule, any rooms: the review, and the schedules that show verdicts 10 and 11.
+pub fn review_evidence(
+    commands: &[u32],
+    lengths: &[u32],
+    schedule: &[u32],
+    relation: &mut [u32],
+    generations: &mut [u32],
+    room: &mut [u32],
+) -> Evidence
+    ensures { λ r. ⌜ Evidenced (now (commands .entry)) (now (lengths .entry)) (now (schedule .entry)) (now (relation .entry)) (now (generations .entry)) (now (room .entry)) r (now (relation .exit)) (now (generations .exit)) (now (room .exit)) ⌝ }
+{
+    let refusal = refuse(commands, lengths, relation.len(), generations.len());
+    if refusal.number().number != 0 {
+        return nothing(bare(refusal));
+    }
+    if room.len() < 32 * (commands.len() / 3) {
+        return nothing(bare(Verdict::ShortRoom(4)));
+    }
+    let finding = review(commands, lengths, schedule, relation, generations);
+    let verdict = finding.verdict;
+    let sheet = finding.sheet;
+    let entries = show(
+        commands,
+        lengths,
+        relation,
+        verdict.number().number,
+        sheet,
+        room,
+    );
+    Evidence { finding, entries }
+}
