@@ -1,5 +1,4 @@
 -- The one proof of `put_number`, which calls itself: a tenth of the number is put, and then its last figure. The measure is the number. Assumes nothing.
-use mathlib.Core.Path.{_∙_}
 use Prim.Native.Nat.{ℕ, _<_}
 use native.Mathlib.Omega.{arith}
 use borrow.Author.Needs.{needs}
@@ -25,18 +24,10 @@ abbrev below : ℕ → In 1 put-number-kinds.ps
 below t = and 1 put-number-kinds.ps (falls 1 put-number-kinds.ps _<_ μ t) put-number.Pre
 
 module _ (t : ℕ) where
-  same-length : put-number-lts.Need-same-length (put-byte-reads.Asked, put-byte-reads.Learnt, below t, put-number.Post) (at-measure t) put-number.Post
-  same-length c = puts-long (c .before .before .put-byte .ensures)
-
   returns : put-number-lts.Need-returns (put-byte-reads.Asked, put-byte-reads.Learnt, below t, put-number.Post) (at-measure t) put-number.Post
   returns c =
       let i = c .before .before .before .before in
       rw (figures-digit _ (i .if1 .taken)) (c .before .before .put-byte .ensures)
-
-  same-length-2 : put-number-lts.Need-same-length-2 (put-byte-reads.Asked, put-byte-reads.Learnt, below t, put-number.Post) (at-measure t) put-number.Post
-  same-length-2 c =
-      let q = c .before .before in
-      puts-long (q .put-byte2 .ensures) ∙ puts-long (q .before .before .before .before .put-number .ensures)
 
   returns-2 : put-number-lts.Need-returns-2 (put-byte-reads.Asked, put-byte-reads.Learnt, below t, put-number.Post) (at-measure t) put-number.Post
   returns-2 c =
@@ -50,11 +41,11 @@ pub +put-number-spec : {M : Type 1} → statement M
     (λ t.
     put-number-lts.spec (put-byte-reads.Asked, put-byte-reads.Learnt, below t, put-number.Post) (at-measure t) put-number.Post (λ c. search needs) (λ c. search needs)
     (λ c κs. search needs)
-    (same-length t)
+    (λ c. puts-long (returns t c))
     (returns t)
     (λ c κs. search needs)
     (λ c. search needs)
     (λ c. search needs)
     (λ c κs. search needs)
-    (same-length-2 t)
+    (λ c. puts-long (returns-2 t c))
     (returns-2 t))

@@ -22,9 +22,6 @@ loop-again c =
     let t = c .before .before .before .before .before in
     (front-next _ _ (t .before .loop .inv .0) (t .loop-test .taken) (c .before .before .put-byte .ensures), omega (arith, t .loop-test .taken))
 
-same-length : tie.Need-same-length Inv-loop μ-loop
-same-length c = puts-long (c .before .loop .inv .0)
-
 returns : tie.Need-returns Inv-loop μ-loop
 returns c = front-all _ (c .before .loop .i) (c .before .loop .inv .0) (omega (arith, c .loop-test .left))
 
@@ -40,5 +37,5 @@ put-spec =
     (λ c. search needs)
     (λ c. search needs)
     loop-again
-    same-length
+    (λ c. puts-long (returns c))
     returns)
