@@ -2,8 +2,8 @@
 use mathlib.Core.Path.{_≡_, refl, sym, ap, _∙_}
 use mathlib.Core.Logic.{⊎-elim, by-cases, _≢_}
 use mathlib.Core.Bool.{Bool, true, false, cond}
-use mathlib.Core.List.{List, [], _∷_}
-use Prim.Native.Nat.{ℕ, zero, suc, _≤_}
+use mathlib.Core.List.{List}
+use Prim.Native.Nat.{ℕ, _≤_}
 use native.Mathlib.Decide.{ℕ-discrete}
 use native.Mathlib.Omega.{arith}
 use lib.Dec.{ltb}
@@ -25,7 +25,8 @@ use Rattle.replay.specs.Doors.{WritesSchedule}
 use Rattle.replay.specs.declared.writer.Written.{Written}
 use Rattle.replay.proofs.Refusals.{or-first, or-either}
 use Rattle.replay.proofs.Places.{Placed, placed, checked-placed, schedule-few}
-use Rattle.sheet.specs.Sheet.{mostKept, firsts, sheetOf}
+use Rattle.sheet.specs.Sheet.{mostKept, sheetOf}
+use Rattle.sheet.proofs.Sheets.{sheet-long}
 use Rattle.review.specs.Judge.{fills}
 use Rattle.review.specs.Agreement.{Reviewed, number}
 use Rattle.sheet.specs.declared.Pair.{Pair}
@@ -36,15 +37,8 @@ use Rattle.review.proofs.Bounds.{finding-small}
 
 -- ---- the review
 
-firsts-length : (n : ℕ) (ps : List Pair) → length (firsts n ps) ≡ n
-unfolding firsts
-firsts-length zero ps = refl
-firsts-length (suc n) [] = ap suc (firsts-length n [])
-firsts-length (suc n) (p ∷ ps) = ap suc (firsts-length n ps)
-
 sheet-length : {s : Sheet} (ps : List Pair) → s ≡ sheetOf ps → length (s .pairs) ≡ mostKept
-unfolding sheetOf
-sheet-length ps e = ap (λ (s : Sheet). length (s .pairs)) e ∙ firsts-length mostKept ps
+sheet-length ps e = ap (λ (s : Sheet). length (s .pairs)) e ∙ sheet-long ps
 
 module _ {commands lengths σ relation room : List ℕ} {r : Finding} {relation′ room′ : List ℕ} (R : Reviewed commands lengths σ relation room r relation′ room′) where
   pub finding-counted : Counted (numbered (r .verdict)) (r .sheet .total) 0
