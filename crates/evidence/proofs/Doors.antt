@@ -1,9 +1,10 @@
 -- The contract of `review_evidence` from what its parts found. Assumes nothing.
 use mathlib.Core.Path.{_≡_, refl, sym, ap, _∙_, subst}
-use mathlib.Core.Logic.{_≢_}
+use mathlib.Core.Logic.{by-cases, _≢_}
 use mathlib.Core.Bool.{Bool}
 use mathlib.Core.List.{List, [], _++_}
 use Prim.Native.Nat.{ℕ, _*_, _+_, _≤_, _<_}
+use native.Mathlib.Decide.{ℕ-discrete}
 use native.Mathlib.Omega.{arith}
 use lib.ListN.{length, getD, take, drop}
 use lib.Seq.{take-at}
@@ -76,6 +77,17 @@ module _ {commands lengths σ relation generations : List ℕ} {f : Finding} {re
         count = λ e. F .long ∙ ap length (eleven-is e) ∙ both-long commands lengths ρ (rows commands) (keptPairs (f .sheet)) (eleven-long R pass e);
         nothing = λ a b. none-is (subst (λ (τ : List ℕ). FilledBy τ room room′ n) (nothing-of commands lengths ρ (number f) (f .sheet) a b) F);
       }
+
+-- ---- refusals
+
+-- tables and rooms that are not refused here are not refused without evidence
+pub showing-passes : (commands lengths : List ℕ) (relation generations room : ℕ) → refusedShowing commands lengths relation generations room .number ≡ 0
+    → refused commands lengths relation generations .number ≡ 0
+unfolding refusedShowing
+showing-passes commands lengths relation generations room z =
+    let a = refused commands lengths relation generations in
+    by-cases (ℕ-discrete (a .number) 0) (λ (e : a .number ≡ 0). e)
+    (λ (n : a .number ≢ 0). absurd (n (ap (λ (t : Told). t .number) (or-first a (shortEvidence (rows commands) room) n) ∙ z)))
 
 -- ---- the door
 
