@@ -27,8 +27,8 @@ use Rattle.review.specs.Judge.{reaches, fills}
 use Rattle.review.specs.Agreement.{number}
 use Rattle.review.proofs.Bounds.{Small, finding-small, bare-small, refused-placed}
 use Rattle.evidence.specs.declared.door.Evidence.{Evidence}
-use Rattle.evidence.specs.Evidence.{against, evidenceOf}
-use Rattle.evidence.specs.Doors.{evidenceRoom, refusedShowing, Evidenced}
+use Rattle.evidence.specs.Evidence.{against, evidenceRoom, evidenceOf}
+use Rattle.evidence.specs.Doors.{refusedShowing, Evidenced}
 use Rattle.evidence.proofs.Putting.{apart-few}
 use Rattle.evidence.proofs.Doors.{showing-passes}
 

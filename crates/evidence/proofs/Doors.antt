@@ -24,8 +24,8 @@ use Rattle.rooms.specs.Refusals.{refused}
 use Rattle.rooms.proofs.Refusals.{admitted}
 use Rattle.review.specs.Judge.{reaches}
 use Rattle.review.specs.Agreement.{number, Reviewed}
-use Rattle.evidence.specs.Evidence.{Disputes, Orders, against, bothWays, evidenceOf}
-use Rattle.evidence.specs.Doors.{evidenceRoom, shortEvidence, refusedShowing, scheduleAt, Opposes, HoldsEvidence, Evidenced}
+use Rattle.evidence.specs.Evidence.{Disputes, Orders, against, bothWays, evidenceRoom, evidenceOf}
+use Rattle.evidence.specs.Doors.{shortEvidence, refusedShowing, scheduleAt, Opposes, HoldsEvidence, Evidenced}
 use Rattle.evidence.proofs.Shown.{ten-disputes, eleven-orders, eleven-long, evidence-is}
 use Rattle.evidence.proofs.Slices.{both-long, x-at, y-at, nothing-of}
 

@@ -3,46 +3,31 @@ use mathlib.Core.Path.{_≡_, refl, subst}
 use mathlib.Core.Logic.{_≢_}
 use mathlib.Core.Bool.{Bool}
 use mathlib.Core.List.{List}
-use Prim.Native.Nat.{ℕ, _≤_, _<_, min}
+use Prim.Native.Nat.{ℕ, _≤_, min}
 use native.Mathlib.Nat.{mul-le-mul-right}
 use native.Mathlib.Omega.{arith}
-use lib.ListN.{length, take}
-use lib.Seq.{length-take-le, getD-take}
+use lib.ListN.{take}
 use borrow.Author.Tests.{eq-eqb, ne-eqb}
-use Rattle.tables.specs.Limits.{mostRows}
 use Rattle.tables.specs.Rows.{rows}
 use Rattle.sheet.specs.declared.Sheet.{Sheet}
-use Rattle.sheet.specs.Sheet.{pair, mostKept, firstKept}
+use Rattle.sheet.specs.Sheet.{mostKept, firstKept}
 use Rattle.replay.specs.Writer.{FilledBy}
 use Rattle.evidence.specs.Evidence.{bothWays, against, evidenceOf}
-use Rattle.evidence.specs.Parts.{AreCommands, PutsAt, FitsAt, FitsAll, Showable}
-use Rattle.evidence.proofs.Putting.{few-commands}
+use Rattle.evidence.specs.Parts.{PutsAt, FitsAt, FitsAll, Showable}
 
 -- what is put from the front fills
 puts-fills : {σ room room′ : List ℕ} {r : ℕ} → PutsAt σ room room′ 0 r → FilledBy σ room room′ r
 puts-fills Q = record { long = omega (arith, Q .ends); room = Q .room }
 
-module _ {commands lengths : List ℕ} {n : ℕ} {s : Sheet} {room : List ℕ} (S : Showable commands lengths n s room) where
-  pub show-low : n ≡ 10 → (firstKept s .first < mostRows) × (firstKept s .second < mostRows)
-  show-low e = few-commands (S .keeps) (S .reuse e)
-
+module _ {commands lengths : List ℕ} {s : Sheet} {room : List ℕ} (S : Showable commands lengths s room) where
   pub show-one : FitsAt commands lengths room 0
-  unfolding mostKept
   show-one = record { keeps = S .keeps; fits = omega (arith, S .fits) }
 
-  pub show-all : n ≡ 11 → {k : ℕ} → k ≡ min (s .total) mostKept → FitsAll commands lengths (s .pairs) k room
+  pub show-all : {k : ℕ} → k ≡ min (s .total) mostKept → FitsAll commands lengths (s .pairs) k room
   unfolding mostKept
-  show-all e {k} q =
-      let few : k ≤ length (s .pairs) = omega (arith, S .long) in
-      record {
-        keeps = S .keeps;
-        few = few;
-        low =
-            λ i l.
-            subst (AreCommands commands) (getD-take (min (s .total) mostKept) (s .pairs) i (pair 0 0) (omega arith))
-            (S .races e i (omega (arith, length-take-le (min (s .total) mostKept) (s .pairs) (omega (arith, S .long)))));
-        fits = let l : k ≤ 16 = omega arith in omega (arith, S .fits, mul-le-mul-right {m = k} {n = 16} (rows commands) l);
-      }
+  show-all {k} q =
+      let l : k ≤ 16 = omega arith in
+      record { keeps = S .keeps; few = omega (arith, S .long); fits = omega (arith, S .fits, mul-le-mul-right {m = k} {n = 16} (rows commands) l) }
 
 module _ (commands lengths : List ℕ) (ρ : ℕ → ℕ → Bool) (n : ℕ) (s : Sheet) {room room′ : List ℕ} {r : ℕ} where
   pub show-ten : n ≡ 10 → PutsAt (against commands lengths ρ (firstKept s)) room room′ 0 r → FilledBy (evidenceOf commands lengths ρ n s) room room′ r

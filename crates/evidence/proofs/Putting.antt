@@ -10,9 +10,7 @@ use lib.ListN.{length, getD, take, drop, length-append, length-drop, take-append
 use lib.Seq.{length-take-le, drop-length, drop-drop, drop-cons, drop-append-add, take-at, getD-take}
 use borrow.Author.Tests.{le-ltb}
 use borrow.Rule.Slice.PartMut.{midOf, postOf, putMid, post-is}
-use Rattle.tables.specs.Limits.{mostRows}
 use Rattle.tables.specs.Rows.{rows}
-use Rattle.tables.specs.Rules.{Keeps}
 use Rattle.tables.specs.Verdicts.{numbered}
 use Rattle.tables.specs.declared.verdict.Told.{Told}
 use Rattle.tables.proofs.Rules.{kept}
@@ -23,11 +21,7 @@ use Rattle.replay.specs.Writer.{unwritten, apartFrom, pickedFirst, apartSchedul
 use Rattle.replay.specs.Doors.{Writes}
 use Rattle.replay.proofs.Places.{schedule-by-few}
 use Rattle.evidence.specs.Evidence.{bothWays, firstFirst, secondFirst}
-use Rattle.evidence.specs.Parts.{PutsAt, FitsAt, AreCommands, FitsAll}
-
--- commands are few
-pub few-commands : {commands lengths : List ℕ} → Keeps commands lengths → {p : Pair} → AreCommands commands p → (p .first < mostRows) × (p .second < mostRows)
-few-commands K (a, b) = (omega (arith, K .few-rows), omega (arith, K .few-rows))
+use Rattle.evidence.specs.Parts.{PutsAt, FitsAt, FitsAll}
 
 -- ---- one schedule, from a place on
 
@@ -128,9 +122,6 @@ module _ (commands lengths : List ℕ) (ρ : ℕ → ℕ → Bool) (pairs : List
 
       more : suc k * rows commands ≤ n * rows commands
       more = mul-le-mul-right {m = suc k} {n = n} (rows commands) l
-
-      pub racing-low : (p .first < mostRows) × (p .second < mostRows)
-      racing-low = few-commands (R .all .keeps) (R .all .low k l)
 
       pub racing-fits : FitsAt commands lengths room at
       racing-fits = record { keeps = R .all .keeps; fits = omega (arith, racing-long, R .few, R .all .fits, more, suc-mul k (rows commands)) }

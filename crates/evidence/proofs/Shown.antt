@@ -41,10 +41,10 @@ use Rattle.review.specs.Judge.{generations, reaches, verdictOf, fills}
 use Rattle.review.specs.Agreement.{number, Reviewed}
 use Rattle.review.proofs.Judging.{settled}
 use Rattle.evidence.specs.Evidence.{Disputes, Orders, against, firstFirst, secondFirst, evidenceOf}
-use Rattle.evidence.specs.Parts.{AreCommands, Showable}
-use Rattle.evidence.specs.Doors.{evidenceRoom}
+use Rattle.evidence.specs.Parts.{Showable}
+use Rattle.evidence.specs.Evidence.{evidenceRoom}
 use Rattle.evidence.proofs.Evident.{disputes, first-in, first-long}
-use Rattle.evidence.proofs.Slices.{evidence-alike, nothing-of}
+use Rattle.evidence.proofs.Slices.{AreCommands, evidence-alike, nothing-of}
 
 -- ---- the verdict by its number
 
@@ -193,16 +193,8 @@ module _ {commands lengths σ relation room : List ℕ} {r : Finding} {relation�
       (λ (f : fills (number r) ≡ false). ([], R .demand₁ .empty f))
       (split (fills (number r)))
 
-  pub showable : {room″ : List ℕ} → evidenceRoom (rows commands) ≤ length room″ → Showable commands lengths (number r) (r .sheet) room″
-  unfolding mostKept
-  showable fits =
-      record {
-        keeps = A .keeps;
-        fits = omega arith;
-        long = ap (λ (s : Sheet). length (s .pairs)) (some-sheet .1) ∙ sheet-long (some-sheet .0);
-        reuse = ten-commands;
-        races = eleven-commands;
-      }
+  pub showable : {room″ : List ℕ} → evidenceRoom (rows commands) ≤ length room″ → Showable commands lengths (r .sheet) room″
+  showable fits = record { keeps = A .keeps; fits = fits; long = ap (λ (s : Sheet). length (s .pairs)) (some-sheet .1) ∙ sheet-long (some-sheet .0) }
 
   -- the evidence over the room's table is that over what reaches what
   pub evidence-is : evidenceOf commands lengths (related relation′ (rows commands)) (number r) (r .sheet) ≡ evidenceOf commands lengths (reaches commands lengths σ) (number r) (r .sheet)

@@ -18,7 +18,6 @@ use Rattle.sheet.specs.declared.Sheet.{Sheet}
 use Rattle.sheet.specs.Sheet.{pair, keptPairs, firstKept}
 use Rattle.replay.proofs.Picking.{apart-alike}
 use Rattle.evidence.specs.Evidence.{firstFirst, secondFirst, bothWays, evidenceOf}
-use Rattle.evidence.specs.Parts.{AreCommands}
 use Rattle.evidence.specs.Doors.{scheduleAt}
 
 -- ---- one after the other, all of m entries
@@ -96,6 +95,10 @@ unfolding evidenceOf
 nothing-of commands lengths ρ n s a b = rw (ne-eqb n 10 a, ne-eqb n 11 b)
 
 -- ---- what reaches what, alike on commands
+
+-- both numbers of a pair are commands
+abbrev pub AreCommands : List ℕ → Pair → Type 0
+AreCommands commands p = (p .first < rows commands) × (p .second < rows commands)
 
 module _ {commands lengths : List ℕ} (K : Keeps commands lengths) {ρ ρ′ : ℕ → ℕ → Bool} (same : (c x : ℕ) → c < rows commands → x < rows commands → ρ c x ≡ ρ′ c x) where
   pub pair-alike : (p : Pair) → AreCommands commands p

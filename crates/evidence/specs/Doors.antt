@@ -17,11 +17,7 @@ use Rattle.rooms.specs.Refusals.{refused}
 use Rattle.review.specs.Judge.{reaches}
 use Rattle.review.specs.Agreement.{number, Reviewed}
 use Rattle.evidence.specs.declared.door.Evidence.{Evidence}
-use Rattle.evidence.specs.Evidence.{Disputes, Orders, evidenceOf}
-
--- The room needs 32 × M numbers whatever the verdict.
-abbrev pub evidenceRoom : ℕ → ℕ
-evidenceRoom m = 32 * m
+use Rattle.evidence.specs.Evidence.{Disputes, Orders, evidenceRoom, evidenceOf}
 
 -- 4: evidence room short (4)
 abbrev pub shortEvidence : ℕ → ℕ → Told

@@ -2,7 +2,7 @@
 use mathlib.Core.Logic.{_⊎_, _≢_}
 use mathlib.Core.Bool.{Bool, cond}
 use mathlib.Core.List.{List, [], _∷_, _++_}
-use Prim.Native.Nat.{ℕ, _≤_, _<_}
+use Prim.Native.Nat.{ℕ, _*_, _≤_, _<_}
 use lib.Dec.{eqb}
 use Rattle.tables.specs.Rows.{rows}
 use Rattle.sheet.specs.declared.Pair.{Pair}
@@ -50,3 +50,7 @@ module _ (commands lengths : List ℕ) where
 unfoldable pub evidenceOf : (commands lengths : List ℕ) → (ℕ → ℕ → Bool) → ℕ → Sheet → List ℕ
 evidenceOf commands lengths ρ n s =
     cond (eqb n 10) (against commands lengths ρ (firstKept s)) (cond (eqb n 11) (bothWays commands lengths ρ (keptPairs s)) [])
+
+-- The room needs 32 × M numbers whatever the verdict.
+abbrev pub evidenceRoom : ℕ → ℕ
+evidenceRoom m = 32 * m

@@ -45,15 +45,21 @@ fn show(
     sheet: Sheet,
     room: &mut [u32],
 ) -> usize
-    requires { ⌜ Showable (now commands) (now lengths) number sheet (now room) ⌝ }
+    requires { ⌜ Showable (now commands) (now lengths) sheet (now room) ⌝ }
     ensures { λ r. ⌜ FilledBy (evidenceOf (now (commands .entry)) (now (lengths .entry)) (related (now (relation .entry)) (rows (now (commands .entry)))) number sheet) (now (room .entry)) (now (room .exit)) r ⌝ }
 {
     let pairs = sheet.pairs;
     if number == 10 {
         let pair = pairs[0];
-        let c = pair.first as u32;
-        let d = pair.second as u32;
-        return write_at(commands, lengths, relation, c, d, room, 0);
+        return write_at(
+            commands,
+            lengths,
+            relation,
+            pair.first,
+            pair.second,
+            room,
+            0,
+        );
     }
     if number == 11 {
         let n = kept(sheet.total);

@@ -14,8 +14,8 @@ pub(crate) fn write_at(
     commands: &[u32],
     lengths: &[u32],
     relation: &[u32],
-    c: u32,
-    d: u32,
+    c: usize,
+    d: usize,
     room: &mut [u32],
     at: usize,
 ) -> usize
@@ -42,8 +42,8 @@ pub(crate) fn write_races(
     let mut k = 0;
     while k < n {
         let pair = pairs[k];
-        let x = pair.first as u32;
-        let y = pair.second as u32;
+        let x = pair.first;
+        let y = pair.second;
         at = write_at(commands, lengths, relation, y, x, room, at);
         at = write_at(commands, lengths, relation, x, y, room, at);
         k += 1;

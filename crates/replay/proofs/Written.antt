@@ -1,22 +1,44 @@
 -- What the two writers write, of what the one behind them does. Assumes nothing.
 use mathlib.Core.Path.{_≡_, refl, sym, ap, _∙_, subst}
-use mathlib.Core.Bool.{Bool}
+use mathlib.Core.Logic.{by-cases}
+use mathlib.Core.Bool.{Bool, false}
 use mathlib.Core.List.{List, []}
-use Prim.Native.Nat.{ℕ, min}
+use Prim.Native.Nat.{ℕ, min, _≤_, _<_}
+use native.Mathlib.Decide.{decLt}
 use native.Mathlib.Omega.{arith}
+use lib.Dec.{leb, ltb}
 use lib.ListN.{length}
+use borrow.Author.Tests.{le-ltb}
 use Rattle.tables.specs.Limits.{mostRows}
 use Rattle.tables.specs.Rows.{rows}
 use Rattle.tables.specs.Rules.{Keeps}
 use Rattle.tables.specs.Verdicts.{numbered}
 use Rattle.tables.specs.declared.verdict.Told.{Told}
-use Rattle.relation.specs.Table.{related}
+use Rattle.relation.specs.Table.{words, inside, related}
+use Rattle.relation.proofs.Truth.{clashing, both, isnt}
 use Rattle.replay.specs.declared.writer.Written.{Written}
 use Rattle.replay.specs.Writer.{schedule, firstSchedule, goesFirst, apartFrom, PutsApart, FilledBy}
 use Rattle.replay.specs.Doors.{Writes, WritesSchedule, WritesApart}
 use Rattle.replay.specs.Schedules.{Complete}
 use Rattle.replay.proofs.Refusals.{unwritten-keeps}
 use Rattle.replay.proofs.Picking.{picks-lowest, nothing-first, schedule-alike, first-alike}
+
+-- what is no command reaches nothing
+no-row : (relation : List ℕ) (m c x : ℕ) → m ≤ c → related relation m c x ≡ false
+unfolding related
+no-row relation m c x l =
+    isnt _ (λ t.
+    let (u, _) = both (inside (length relation) m c x) _ t in
+    let (_, v) = both (leb (words m) (length relation)) _ u in
+    let (w, _) = both (ltb c m) _ v in
+    clashing w (le-ltb c m l))
+
+-- a number that is cut to the most rows is the same command, or none
+few-apart : (relation : List ℕ) (m c d x : ℕ) → m ≤ mostRows → {a : ℕ} → a ≡ min c mostRows → apartFrom (related relation m) a d x ≡ apartFrom (related relation m) c d x
+unfolding apartFrom
+few-apart relation m c d x l {a} e =
+    by-cases (decLt c m) (λ (h : c < m). let q : a ≡ c = omega arith in rw q)
+    (λ (n : ¬ (c < m)). rw (no-row relation m a x (omega arith), no-row relation m c x (omega arith)))
 
 module _ {commands lengths before after : List ℕ} {r : Written} where
   -- schedules that are the same for tables that pass
@@ -36,10 +58,11 @@ module _ {commands lengths before after : List ℕ} {r : Written} where
   unfolding schedule
   wrote-lowest = same _ _ (λ _. sym (schedule-alike (λ s. picks-lowest (goesFirst []) lengths s (nothing-first [] refl)) commands lengths))
 
-  pub wrote-apart : (relation : List ℕ) (c d : ℕ) {m : ℕ} {early early′ : List Bool} → m ≡ min (rows commands) mostRows → length early ≡ mostRows
-      → PutsApart (related relation m) c d early early′ → Writes (firstSchedule early′ commands lengths) commands lengths before after r
+  pub wrote-apart : (relation : List ℕ) (c d : ℕ) {m a : ℕ} {early early′ : List Bool} → m ≡ min (rows commands) mostRows → a ≡ min c mostRows → length early ≡ mostRows
+      → PutsApart (related relation m) a d early early′ → Writes (firstSchedule early′ commands lengths) commands lengths before after r
       → WritesApart commands lengths relation c d before after r
-  wrote-apart relation c d {m} {early} {early′} e l A =
+  wrote-apart relation c d {m} {a} {early} {early′} e f l A =
       same _ _ (λ K.
       let q : m ≡ rows commands = omega (arith, K .few-rows) in
-      schedule-alike (first-alike K (λ x lx. A .each x (omega (arith, K .few-rows)) ∙ ap (λ (n : ℕ). apartFrom (related relation n) c d x) q)) commands lengths)
+      schedule-alike (first-alike K (λ x lx.
+      A .each x (omega (arith, K .few-rows)) ∙ ap (λ (n : ℕ). apartFrom (related relation n) a d x) q ∙ few-apart relation (rows commands) c d x (K .few-rows) f)) commands lengths)

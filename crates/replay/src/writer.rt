@@ -86,7 +86,7 @@ pub fn write_schedule(commands: &[u32], lengths: &[u32], room: &mut [u32]) -> Wr
     write_first(commands, lengths, &[], room)
 }
 
-// The rows of tables that pass, which are few; of other tables it doesn't matter, since they are refused.
+// The rows of tables that pass are few, and so are their commands. Tables with more are refused, and what is no command reaches nothing.
 fn few(m: usize) -> u32
     ensures { λ r. ⌜ r ≡ min m mostRows ⌝ }
 {
@@ -97,13 +97,13 @@ fn few(m: usize) -> u32
 }
 
 // d goes first, and each command that c does not reach in a table of m rows.
-fn put_apart(relation: &[u32], m: u32, c: u32, d: u32, early: &mut [bool])
+fn put_apart(relation: &[u32], m: u32, c: u32, d: usize, early: &mut [bool])
     requires { ⌜ length (now early) ≤ mostRows ⌝ }
     ensures { λ _. ⌜ PutsApart (related (now (relation .entry)) m) c d (now (early .entry)) (now (early .exit)) ⌝ }
 {
     let mut x = 0;
     while x < early.len() {
-        early[x] = (x == d as usize) | !related(relation, m, c, x as u32);
+        early[x] = (x == d) | !related(relation, m, c, x as u32);
         x += 1;
     }
 }
@@ -113,13 +113,14 @@ pub fn write_apart(
     commands: &[u32],
     lengths: &[u32],
     relation: &[u32],
-    c: u32,
-    d: u32,
+    c: usize,
+    d: usize,
     room: &mut [u32],
 ) -> Written
     ensures { λ r. ⌜ WritesApart (now (commands .entry)) (now (lengths .entry)) (now (relation .entry)) c d (now (room .entry)) (now (room .exit)) r ⌝ }
 {
     let mut early = [false; Table::ROWS];
-    put_apart(relation, few(commands.len() / 3), c, d, &mut early);
+    let m = few(commands.len() / 3);
+    put_apart(relation, m, few(c), d, &mut early);
     write_first(commands, lengths, &early, room)
 }

@@ -42,8 +42,7 @@ show-requires c κs =
     let i = j .before in
     let n = i .before .before in
     let k = n .before .refuse in
-    rw (number-is (w .review .result .verdict) (c .before .number2 .ensures))
-    (showable (w .review .ensures) (said-zero (k .result) (n .number .ensures) (k .ensures) (i .if1 .left)) (j .if2 .left))
+    showable (w .review .ensures) (said-zero (k .result) (n .number .ensures) (k .ensures) (i .if1 .left)) (j .if2 .left)
 
 returns-3 : tie.Need-returns-3
 returns-3 c =

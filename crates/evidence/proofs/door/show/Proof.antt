@@ -1,36 +1,21 @@
 -- `show` meets its contract, by the verdict's number. Assumes nothing.
 use borrow.Author.Needs.{needs}
-use Rattle.tables.specs.Limits.{mostRows}
-use Rattle.evidence.proofs.Filling.{show-low, show-one, show-all, show-ten, show-eleven, show-none}
+use Rattle.evidence.proofs.Filling.{show-one, show-all, show-ten, show-eleven, show-none}
 use Rattle.evidence.proofs.door.show.Statement.{statement}
 use Rattle.evidence.proofs.door.show.Tie as tie
 
-cast-c : tie.Need-cast-c
-unfolding mostRows
-cast-c c =
-    let t = c .before .before in
-    let l = show-low (t .before .before .before .before .before .before .pre) (t .if1 .taken) .0 in
-    search needs
-
-cast-d : tie.Need-cast-d
-unfolding mostRows
-cast-d c =
-    let t = c .before .before .before in
-    let l = show-low (t .before .before .before .before .before .before .pre) (t .if1 .taken) .1 in
-    search needs
-
 write-at-requires : tie.Need-write-at-requires
-write-at-requires c κs = show-one (c .before .before .before .before .before .before .before .before .before .before .pre)
+write-at-requires c κs = show-one (c .before .before .before .before .before .before .before .before .pre)
 
 returns : tie.Need-returns
 returns c =
-    let t = c .before .before .before .before .before .before .before in
+    let t = c .before .before .before .before .before in
     show-ten _ _ _ _ _ (t .if1 .taken) (c .before .before .write-at .ensures)
 
 write-races-requires : tie.Need-write-races-requires
 write-races-requires c κs =
     let t = c .before .before in
-    show-all (t .before .before .before .before .before .before .before .pre) (t .if2 .taken) (c .before .kept .ensures)
+    show-all (t .before .before .before .before .before .before .before .pre) (c .before .kept .ensures)
 
 returns-2 : tie.Need-returns-2
 returns-2 c =
@@ -45,8 +30,6 @@ show-spec =
     tie.close
     (tie.spec
     (λ c. search needs)
-    cast-c
-    cast-d
     write-at-requires
     (λ c. search needs)
     returns

@@ -15,9 +15,9 @@ returns : tie.Need-returns
 unfolding mostRows
 returns c =
     let p = c .before .before .before .before .before .before in
-    wrote-apart _ _ _ (p .before .before .few .ensures) refl (p .put-apart .ensures) (c .before .before .write-first .ensures)
+    wrote-apart _ _ _ (p .before .before .before .few .ensures) (p .before .before .few2 .ensures) refl (p .put-apart .ensures) (c .before .before .write-first .ensures)
 
 pub write-apart-spec : {M : Type 1} → statement M
 write-apart-spec =
     tie.close
-    (tie.spec (λ c κs. search needs) (λ c. search needs) put-apart-requires (λ c. search needs) (λ c κs. search needs) (λ c. search needs) returns)
+    (tie.spec (λ c κs. search needs) (λ c κs. search needs) (λ c. search needs) put-apart-requires (λ c. search needs) (λ c κs. search needs) (λ c. search needs) returns)
