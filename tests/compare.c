@@ -624,6 +624,7 @@ static void demand_all(void)
         demand_often(marks[m], "", marked[m]);
 }
 
+/* One line. tests/tools.sh adds up the figures of two processes: no other number may stand in it by itself. */
 static void print_figures(void)
 {
     unsigned long all = 0;
@@ -631,7 +632,7 @@ static void print_figures(void)
         all += calls[d];
     printf("%lu inputs: %lu reviews, %lu schedules to write, %lu readings, %lu text reviews, %lu closings; of %lu programs all %lu schedules;", all, calls[REVIEW],
            calls[SCHEDULE], calls[READING], calls[TEXTS], calls[CLOSING], programs, schedules);
-    printf(" evidence checked of %lu reviews that end in 10 and %lu that end in 11\n", evident[0], evident[1]);
+    printf(" evidence checked of %lu reuse faults and %lu races\n", evident[0], evident[1]);
 }
 
 /* With COMPARE_DETAILS set: how often each answer and each mark came. */
