@@ -167,7 +167,7 @@ static size_t answer_room(void)
     return chance(&drawn, 50) ? ANSWER : ANSWER + below(&drawn, 5);
 }
 
-/* Rooms for a review of so many rows: each about as often just enough, and now and then none for evidence. */
+/* Rooms for a review of so many rows: most of them just enough, some more, some less, and now and then none at all for evidence. */
 static struct rooms some_rooms(size_t rows)
 {
     size_t n = rows > ROWS ? 0 : rows;
