@@ -507,7 +507,7 @@ static void tables_case(int damaged)
 /* Legal schedules of programs that have faults, most of them with just the rooms that are needed. */
 static void evidence_case(void)
 {
-    int is_big = chance(&drawn, 2);
+    int is_big = chance(&drawn, 4);
     faulty_program(&drawn, is_big ? THREADS : 8, is_big ? ROWS : chance(&drawn, 90) ? 14 : 60, &program);
     struct tables tables = tables_of(&program);
     for (int i = 0; i < (is_big ? 1 : 3); i++) {
