@@ -25,7 +25,7 @@ use Rattle.sheet.specs.Sheet.{mostKept, firsts, sheetOf}
 use Rattle.faults.specs.Faults.{succeeds, reuse, conflict, race, alongRow, allRows, faults}
 use Rattle.rooms.specs.Refusals.{refused}
 use Rattle.review.specs.Judge.{verdictOf}
-use Rattle.desk.specs.Figures.{figuresTo, figures}
+use Rattle.printing.specs.Figures.{figuresTo, figures}
 use Rattle.desk.specs.Conclusion.{ofTables, ofText}
 use Rattle.desk.specs.Report.{twoNumbers, verdictLine, totalLine, pairLines, report}
 use Rattle.desk.specs.Examples.{reports, reported}

@@ -7,7 +7,7 @@ use Rattle.sheet.specs.declared.Pair.{Pair}
 use Rattle.sheet.specs.Sheet.{mostKept, pair}
 use Rattle.desk.specs.declared.conclusion.Conclusion.{Conclusion}
 use Rattle.desk.specs.Report.{leastRoom, twoNumbers, pairLines, report}
-use Rattle.desk.proofs.Numerals.{figures-long}
+use Rattle.printing.proofs.Numerals.{figures-long}
 use Rattle.desk.proofs.Lines.{two-long, verdict-long, total-long, report-long}
 
 -- numbers below 1,000

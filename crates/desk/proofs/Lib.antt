@@ -1,8 +1,6 @@
--- Read in this order: Placing (bytes put into a room); Numerals (numbers in decimal); Lines (the report's lines); Fits (a report of small numbers has room); Retold (a
--- report tells its conclusion again); Tabled (two tables, judged by the writer's schedule); Texts (a text, read into tables); Demands (what is concluded, by the grammar);
--- Reports (any text's report has room; nothing else meets the promise). By itself: Examples.
-pub mod Placing
-pub mod Numerals
+-- Read in this order: Lines (the report's lines); Fits (a report of small numbers has room); Retold (a report tells its conclusion again); Tabled (two tables, judged by
+-- the writer's schedule); Texts (a text, read into tables); Demands (what is concluded, by the grammar); Reports (any text's report has room; nothing else meets the
+-- promise). By itself: Examples.
 pub mod Lines
 pub mod Fits
 pub mod Retold

@@ -1,15 +1,15 @@
 -- The lines of a report: how long they are, and pairs one after another. Assumes nothing.
 use mathlib.Core.Path.{_≡_, refl, sym, ap, _∙_}
 use mathlib.Core.List.{List, [], _∷_, _++_, append-assoc, append-nil}
-use Prim.Native.Nat.{ℕ, _+_, _≤_, _<_}
+use Prim.Native.Nat.{ℕ, _+_, _<_}
 use native.Mathlib.Numerals.{add-one}
 use native.Mathlib.Omega.{arith}
-use lib.ListN.{length, getD, take, drop, length-append, take-append-drop}
-use lib.Seq.{take-suc, take-take}
+use lib.ListN.{length, getD, take, length-append}
+use lib.Seq.{take-suc}
 use Rattle.tables.specs.declared.verdict.Told.{Told}
 use Rattle.sheet.specs.declared.Pair.{Pair}
 use Rattle.desk.specs.declared.conclusion.Conclusion.{Conclusion}
-use Rattle.desk.specs.Figures.{figures}
+use Rattle.printing.specs.Figures.{figures}
 use Rattle.desk.specs.Report.{space, newline, verdictWord, placeWord, totalWord, twoNumbers, verdictLine, totalLine, pairLines, keptPairs, report}
 
 -- ---- lengths
@@ -55,26 +55,8 @@ pub pairs-one : (p : Pair) → pairLines (p ∷ []) ≡ twoNumbers (p .first) (p
 unfolding pairLines
 pairs-one p = append-nil (twoNumbers (p .first) (p .second))
 
-module _ (ps : List Pair) (i : ℕ) (d : Pair) where
-  pub pairs-next : i < length ps
-      → pairLines (take (i + 1) ps) ≡ pairLines (take i ps) ++ twoNumbers (getD ps i d .first) (getD ps i d .second)
-  pairs-next h =
-      rw (add-one i, take-suc ps i d h, pairs-append (take i ps) (getD ps i d ∷ []))
-      (ap (λ (w : List ℕ). pairLines (take i ps) ++ w) (pairs-one (getD ps i d)))
-
-  -- a line more has room where n lines have it
-  pub pairs-room : (n : ℕ) → i < n → n ≤ length ps
-      → length (pairLines (take i ps)) + length (twoNumbers (getD ps i d .first) (getD ps i d .second)) ≤ length (pairLines (take n ps))
-  pairs-room n h g =
-      let j = i + 1 in
-      let e : take j (take n ps) ++ drop j (take n ps) ≡ take n ps = take-append-drop j (take n ps) in
-      let f : take j (take n ps) ≡ take j ps = take-take j n ps (omega arith) in
-      omega (
-        arith,
-        ap (λ (l : List Pair). length (pairLines l)) e,
-        ap (λ (l : List Pair). length (pairLines l)) f,
-        ap length (pairs-append (take j (take n ps)) (drop j (take n ps))),
-        length-append (pairLines (take j (take n ps))) (pairLines (drop j (take n ps))),
-        ap length (pairs-next (omega arith)),
-        length-append (pairLines (take i ps)) (twoNumbers (getD ps i d .first) (getD ps i d .second)),
-      )
+pub pairs-next : (ps : List Pair) (i : ℕ) (d : Pair) → i < length ps
+    → pairLines (take (i + 1) ps) ≡ pairLines (take i ps) ++ twoNumbers (getD ps i d .first) (getD ps i d .second)
+pairs-next ps i d h =
+    rw (add-one i, take-suc ps i d h, pairs-append (take i ps) (getD ps i d ∷ []))
+    (ap (λ (w : List ℕ). pairLines (take i ps) ++ w) (pairs-one (getD ps i d)))

@@ -15,7 +15,8 @@ use Rattle.notation.specs.declared.reading.Reading.the-variants.{Unfit, Over, A
 use Rattle.notation.specs.Reading.{mostBytes, answered, rowNumbers, threadLengths}
 use Rattle.notation.proofs.Readings.{Stands, reads-means}
 use Rattle.relation.specs.Table.{words}
-use Rattle.spelling.specs.Over.{over}
+use Rattle.printing.specs.Putting.{PutsBytes}
+use Rattle.printing.proofs.Placing.{puts-over}
 use Rattle.replay.specs.Writer.{schedule}
 use Rattle.sheet.specs.Sheet.{mostKept, pair, firsts, sheetOf}
 use Rattle.review.specs.Judge.{fills}
@@ -111,16 +112,17 @@ module _ (text room : List ℕ) where
         demand₃ = λ h. absurd (omega arith);
       }
 
-  pub reviewed-text : leastRoom ≤ length room → {room′ : List ℕ} → room′ ≡ over (report (ofText text)) room → {n : ℕ} → n ≡ ofText text .told .number
-      → TextReviewed text room room′ n
-  reviewed-text l p e =
+  pub reviewed-text : leastRoom ≤ length room → {k : Conclusion} → k ≡ ofText text → {room′ : List ℕ} {r : ℕ} → PutsBytes room room′ 0 (report k) r
+      → TextReviewed text room room′ (k .told .number)
+  reviewed-text l {k} e p =
+      let n : k .told .number ≡ ofText text .told .number = cc in
       record {
         refuses = λ h. absurd (omega arith);
-        answers = λ _. e;
-        prints = λ _. p;
+        answers = λ _. n;
+        prints = λ _. puts-over (rw e at p) (omega (arith, text-fits text));
         fits = text-fits text;
         possible = text-possible text;
-        demand₃ = λ _. rw e (text-judged text);
+        demand₃ = λ _. rw n (text-judged text);
       }
 
 -- no other answer, and no other bytes

@@ -9,10 +9,10 @@ use Rattle.tables.specs.Verdicts.{tell}
 use Rattle.tables.specs.declared.verdict.Told.{Told}
 use Rattle.sheet.specs.declared.Pair.{Pair}
 use Rattle.sheet.specs.Sheet.{mostKept, pair, firsts, sheetOf}
-use Rattle.desk.specs.Figures.{figures}
+use Rattle.printing.specs.Figures.{figures}
 use Rattle.desk.specs.Report.{space, newline, verdictWord, placeWord, totalWord, twoNumbers, verdictLine, totalLine, pairLines, report}
 use Rattle.desk.specs.Promise.{ToldAgain}
-use Rattle.desk.proofs.Numerals.{Digit, figures-apart}
+use Rattle.printing.proofs.Numerals.{Digit, figures-apart}
 
 -- ---- a number up to the space or the newline after it
 

@@ -7,7 +7,7 @@ use Rattle.sheet.specs.declared.Pair.{Pair}
 use Rattle.sheet.specs.declared.Sheet.{Sheet}
 use Rattle.sheet.specs.Sheet.{mostKept}
 use Rattle.desk.specs.declared.conclusion.Conclusion.{Conclusion}
-use Rattle.desk.specs.Figures.{figures}
+use Rattle.printing.specs.Figures.{figures}
 
 -- a report room has at least so many bytes
 unfoldable pub leastRoom : ℕ

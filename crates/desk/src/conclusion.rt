@@ -1,6 +1,6 @@
 // What the review of a text tells: the text read, a schedule written, and that judged.
 ghost use mathlib.Core.Path.{_≡_};
-ghost use Rattle.desk.specs.Conclusion.{bare, ofTables, ofText};
+ghost use Rattle.desk.specs.Conclusion.{ofTables, ofText};
 use notation::Reading;
 use notation::read;
 use replay::write_schedule;

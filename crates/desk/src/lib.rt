@@ -4,7 +4,6 @@ use crate::conclusion::conclude;
 use crate::report::print;
 
 mod conclusion; // a text read, scheduled and judged
-mod put; // bytes and numbers into a room
 mod report; // the lines of the report
 
 pub use report::Report;

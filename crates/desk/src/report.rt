@@ -1,13 +1,11 @@
 // The lines of the report.
 ghost use mathlib.Core.Path.{_≡_};
-ghost use Prim.Native.Nat.{_+_, _≤_, min};
-ghost use lib.ListN.{length};
-ghost use Rattle.spelling.specs.Over.{over};
-ghost use Rattle.desk.specs.Putting.{PutsBytes};
+ghost use Prim.Native.Nat.{min};
+ghost use Rattle.printing.specs.Putting.{PutsBytes};
 ghost use Rattle.desk.specs.Report.{twoNumbers, verdictLine, totalLine, pairLines, keptPairs, report};
 use crate::conclusion::Conclusion;
-use crate::put::put;
-use crate::put::put_number;
+use printing::put;
+use printing::put_number;
 use sheet::Sheet;
 use tables::Told;
 
@@ -20,7 +18,6 @@ impl Report {
 
 // Two numbers, a space between them, and the line's end.
 fn put_two(room: &mut [u8], at: usize, first: usize, second: usize) -> usize
-    requires { ⌜ at + length (twoNumbers first second) ≤ length (now room) ⌝ }
     ensures { λ r. ⌜ PutsBytes (now (room .entry)) (now (room .exit)) at (twoNumbers first second) r ⌝ }
 {
     let after_first = put_number(room, at, first);
@@ -30,7 +27,6 @@ fn put_two(room: &mut [u8], at: usize, first: usize, second: usize) -> usize
 }
 
 fn put_verdict(room: &mut [u8], at: usize, told: Told) -> usize
-    requires { ⌜ at + length (verdictLine told) ≤ length (now room) ⌝ }
     ensures { λ r. ⌜ PutsBytes (now (room .entry)) (now (room .exit)) at (verdictLine told) r ⌝ }
 {
     let after_word = put(room, at, b"verdict ");
@@ -40,7 +36,6 @@ fn put_verdict(room: &mut [u8], at: usize, told: Told) -> usize
 }
 
 fn put_total(room: &mut [u8], at: usize, total: usize) -> usize
-    requires { ⌜ at + length (totalLine total) ≤ length (now room) ⌝ }
     ensures { λ r. ⌜ PutsBytes (now (room .entry)) (now (room .exit)) at (totalLine total) r ⌝ }
 {
     let after_word = put(room, at, b"total ");
@@ -56,7 +51,6 @@ fn least(a: usize, b: usize) -> usize
 
 // One line a kept pair.
 fn put_pairs(room: &mut [u8], at: usize, sheet: Sheet) -> usize
-    requires { ⌜ at + length (pairLines (keptPairs sheet)) ≤ length (now room) ⌝ }
     ensures { λ r. ⌜ PutsBytes (now (room .entry)) (now (room .exit)) at (pairLines (keptPairs sheet)) r ⌝ }
 {
     let lines = least(sheet.total, Sheet::KEPT);
@@ -70,12 +64,11 @@ fn put_pairs(room: &mut [u8], at: usize, sheet: Sheet) -> usize
     next
 }
 
-// The whole report, at the start of a room. Bytes after it are kept.
-pub(crate) fn print(room: &mut [u8], concluded: Conclusion)
-    requires { ⌜ length (report concluded) ≤ length (now room) ⌝ }
-    ensures { λ _. ⌜ now (room .exit) ≡ over (report concluded) (now (room .entry)) ⌝ }
+// The whole report, at the start of a room.
+pub(crate) fn print(room: &mut [u8], concluded: Conclusion) -> usize
+    ensures { λ r. ⌜ PutsBytes (now (room .entry)) (now (room .exit)) 0 (report concluded) r ⌝ }
 {
     let after_verdict = put_verdict(room, 0, concluded.told);
     let after_total = put_total(room, after_verdict, concluded.sheet.total);
-    put_pairs(room, after_total, concluded.sheet);
+    put_pairs(room, after_total, concluded.sheet)
 }

@@ -9,8 +9,8 @@ use crate::writing::write_at;
 use crate::writing::write_races;
 use findings::Finding;
 use findings::bare;
-use rooms::refuse;
 use review::review;
+use rooms::refuse;
 use sheet::Sheet;
 use tables::Verdict;
 

@@ -1,5 +1,6 @@
 -- A legal schedule is no longer than the tables: each of its steps runs another command. Assumes nothing.
 use mathlib.Core.Path.{_≡_, refl, ap, sym, _∙_}
+use mathlib.Core.Bool.{true}
 use mathlib.Core.List.{List, [], _∷_}
 use Prim.Native.Nat.{ℕ, suc, _≤_, _<_}
 use native.Mathlib.Omega.{arith}
@@ -10,7 +11,7 @@ use Rattle.relation.proofs.Truth.{clashing}
 use Rattle.schedules.specs.Tally.{tally}
 use Rattle.schedules.specs.Machine.{Program, State, next, state}
 use Rattle.schedules.specs.Threads.{Threads, at, after, Steps, Legal}
-use Rattle.schedules.proofs.Tally.{tally-one, tally-none, tally-most}
+use Rattle.schedules.proofs.Tally.{tally-one, tally-none, tally-all, tally-most}
 use Rattle.schedules.proofs.Step.{ran-same, ran-other, done-top}
 use Rattle.schedules.proofs.Threads.{stand, may}
 use Rattle.replay.specs.Program.{program}
@@ -44,6 +45,10 @@ module _ {commands lengths : List ℕ} (K : Keeps commands lengths) where
 
   pub steps-few : {υ : List ℕ} {t : ℕ} → Legal P H υ → Steps P H υ t → length υ < rows commands
   steps-few {υ} {t} L st = omega (arith, each-runs υ L, one-more υ L st, tally-most (rows commands) (next P (after P H υ) (at P H υ t) .ran))
+
+  -- where all commands have run, there are as many steps
+  pub legal-all : (υ : List ℕ) → Legal P H υ → ((c : ℕ) → c < rows commands → after P H υ .ran c ≡ true) → length υ ≡ rows commands
+  legal-all υ L all = sym (each-runs υ L) ∙ tally-all (rows commands) (after P H υ .ran) all
 
   -- no more generations than steps
   pub done-few : (υ : List ℕ) (b : ℕ) → after P H υ .done b ≤ length υ

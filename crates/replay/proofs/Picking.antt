@@ -1,66 +1,125 @@
--- Whether a thread is picked, by the tests of `picks`. Assumes nothing.
-use mathlib.Core.Path.{_≡_, sym, ap, _∙_}
-use mathlib.Core.Logic.{_≢_}
-use mathlib.Core.Bool.{Bool, true, false, not}
-use mathlib.Core.List.{List}
-use Prim.Native.Nat.{ℕ, min, _+_, _≤_, _<_}
+-- Which thread is picked, by the tests of the scan; and that no more is asked of the commands that go first than what is said of rows. Assumes nothing.
+use mathlib.Core.Path.{_≡_, refl, sym, ap, _∙_}
+use mathlib.Core.Bool.{Bool, true, false, cond, not, _&&_, _||_}
+use mathlib.Core.List.{List, []}
+use mathlib.Core.Logic.{⊎-elim}
+use Prim.Native.Nat.{ℕ, zero, suc, _+_, _≤_, _<_}
 use native.Mathlib.Omega.{arith}
-use lib.ListN.{length}
-use borrow.Author.Tests.{eq-eqb, ne-eqb, lt-ltb, le-ltb}
-use Rattle.tables.specs.Limits.{mostRows, mostThreads}
+use lib.Dec.{eqb, ltb}
+use lib.ListN.{length, getD, set, length-set, List·getD-eq-default}
+use lib.Seq.{getD-set-same, getD-set-other}
+use borrow.Author.Count.{below-none, below-more}
+use borrow.Author.Tests.{lt-ltb, le-ltb}
+use Rattle.tables.specs.Lowest.{lowest}
 use Rattle.tables.specs.Rows.{rows, firstRow}
 use Rattle.tables.specs.Rules.{Keeps}
-use Rattle.relation.specs.Table.{related}
-use Rattle.replay.specs.declared.choice.Choice.{Choice}
-use Rattle.replay.specs.declared.choice.Choice.the-variants.{Lowest, Apart}
+use Rattle.tables.proofs.Lowest.{lowest-first, lowest-is}
+use Rattle.relation.proofs.Truth.{split}
 use Rattle.replay.specs.declared.state.Replay.{Replay}
-use Rattle.replay.specs.State.{ranSoFar}
-use Rattle.replay.specs.Step.{allowed, command}
+use Rattle.replay.specs.State.{start, ranSoFar}
+use Rattle.replay.specs.Step.{allowed, command, stepped}
 use Rattle.replay.specs.Ending.{lowestAllowed}
-use Rattle.replay.specs.Writer.{apartFrom, picked, lowestPicked, pickedFirst, chosen}
-use Rattle.replay.proofs.Steps.{may, next, next-row}
+use Rattle.replay.specs.Writer.{goesOn, stepping, scheduleBy, picked, lowestPicked, pickedFirst, goesFirst, apartFrom, apartSchedule, PutsApart}
+use Rattle.replay.proofs.Steps.{may, next-row}
 
-pub picks-none : (pick : ℕ → Bool) (lengths : List ℕ) (s : Replay) (t : ℕ) → allowed lengths s t ≡ false → false ≡ picked pick lengths s t
+-- ---- the tests of the scan
+
+pub picked-is : (early : List Bool) (lengths : List ℕ) (s : Replay) (t : ℕ) {a b : Bool} {row : ℕ} → a ≡ allowed lengths s t → row ≡ firstRow lengths t
+    → b ≡ goesFirst early (row + ranSoFar s t) → (a && b) ≡ picked (goesFirst early) lengths s t
 unfolding picked
-picks-none pick lengths s t e = rw e
-
-module _ (commands lengths : List ℕ) (s : Replay) (t : ℕ) (k : Keeps commands lengths) (e : allowed lengths s t ≡ true) where
-  pub thread-low : t < 64
-  unfolding mostThreads
-  thread-low = let m = may lengths s t e in omega (arith, k .few-threads)
-
-  module _ {f : ℕ} (first : f ≡ firstRow lengths (min t mostThreads)) where
-    pub row-low : f + ranSoFar s t < 512
-    unfolding mostRows
-    row-low = omega (arith, next commands lengths s t k e first, next-row commands lengths s t k (may lengths s t e), k .few-rows)
-
-    pub picks-own : (relation : List ℕ) (c d : ℕ) → f + ranSoFar s t ≡ d → true ≡ picked (apartFrom relation (rows commands) c d) lengths s t
-    unfolding picked apartFrom
-    picks-own relation c d q = rw (e, eq-eqb (command lengths s t) d (sym (next commands lengths s t k e first) ∙ q))
-
-    pub picks-far : (relation : List ℕ) (c d : ℕ) → f + ranSoFar s t ≢ d → {b : Bool} → b ≡ related relation (rows commands) c (f + ranSoFar s t)
-        → not b ≡ picked (apartFrom relation (rows commands) c d) lengths s t
-    unfolding picked apartFrom
-    picks-far relation c d n {b} r =
-        let is = next commands lengths s t k e first in
-        rw (e, ne-eqb (command lengths s t) d (λ q. n (is ∙ q))) (ap not (r ∙ ap (related relation (rows commands) c) is))
-
-pub few-rows : {commands lengths : List ℕ} → Keeps commands lengths → rows commands ≤ 512
-unfolding mostRows
-few-rows k = k .few-rows
+picked-is early lengths s t e f g = rw (e, g, f)
 
 -- ---- the thread that steps
 
-module _ (commands lengths relation : List ℕ) (choice : Choice) (s : Replay) where
-  pub chosen-lowest : choice ≡ Lowest → {r : ℕ} → r ≡ lowestAllowed lengths s → r ≡ chosen commands lengths relation choice s
-  unfolding chosen
-  chosen-lowest e q = rw e q
+module _ (early : ℕ → Bool) (lengths : List ℕ) (s : Replay) where
+  module _ {t : ℕ} (is : t ≡ lowestPicked early lengths s) where
+    pub picks-it : t < length lengths → t ≡ pickedFirst early lengths s
+    unfolding pickedFirst
+    picks-it l = rw (lt-ltb (lowestPicked early lengths s) (length lengths) (omega (arith, is))) is
 
-  module _ {c d : ℕ} (e : choice ≡ Apart c d) {t : ℕ} (is : t ≡ lowestPicked (apartFrom relation (rows commands) c d) lengths s) where
-    pub chosen-picked : t < length lengths → t ≡ chosen commands lengths relation choice s
-    unfolding chosen pickedFirst
-    chosen-picked l = rw (e, lt-ltb (lowestPicked (apartFrom relation (rows commands) c d) lengths s) (length lengths) (omega (arith, is))) is
+    pub picks-other : length lengths ≤ t → {r : ℕ} → r ≡ lowestAllowed lengths s → r ≡ pickedFirst early lengths s
+    unfolding pickedFirst
+    picks-other l q = rw (le-ltb (lowestPicked early lengths s) (length lengths) (omega (arith, is))) q
 
-    pub chosen-else : length lengths ≤ t → {r : ℕ} → r ≡ lowestAllowed lengths s → r ≡ chosen commands lengths relation choice s
-    unfolding chosen pickedFirst
-    chosen-else l q = rw (e, le-ltb (lowestPicked (apartFrom relation (rows commands) c d) lengths s) (length lengths) (omega (arith, is))) q
+  none-lowest : ((x : ℕ) → early x ≡ false) → lowestPicked early lengths s ≡ length lengths
+  unfolding picked
+  none-lowest none =
+      lowest-is (picked early lengths s) (record {
+        at-most = omega arith;
+        passes = λ l. absurd (omega arith);
+        below = λ k _. ⊎-elim (λ e. rw e (none (command lengths s k))) (λ e. rw e) (split (allowed lengths s k));
+      })
+
+  -- where no command goes first, the lowest allowed thread steps
+  pub picks-lowest : ((x : ℕ) → early x ≡ false) → lowestAllowed lengths s ≡ pickedFirst early lengths s
+  picks-lowest none = picks-other (sym (none-lowest none)) (omega arith) refl
+
+-- ---- choices that are alike write the same schedule
+
+module _ {choose other : Replay → ℕ} (alike : (s : Replay) → choose s ≡ other s) (commands lengths : List ℕ) where
+  stepping-alike : (n : ℕ) (s : Replay) → stepping choose commands lengths n s ≡ stepping other commands lengths n s
+  unfolding stepping
+  stepping-alike zero s = refl
+  stepping-alike (suc n) s = rw (alike s, stepping-alike n (stepped commands lengths s (other s) .after))
+
+  pub schedule-alike : scheduleBy choose commands lengths ≡ scheduleBy other commands lengths
+  unfolding scheduleBy
+  schedule-alike = stepping-alike (rows commands) start
+
+lowest-alike : (p q : ℕ → Bool) (n : ℕ) → ((k : ℕ) → k < n → p k ≡ q k) → lowest p n ≡ lowest q n
+lowest-alike p q n e =
+    let L = lowest-first q n in
+    lowest-is p (record {
+      at-most = L .at-most;
+      passes = λ l. e (lowest q n) l ∙ L .passes l;
+      below = λ k l. e k (omega (arith, L .at-most)) ∙ L .below k l;
+    })
+
+module _ {commands lengths : List ℕ} (K : Keeps commands lengths) {early other : ℕ → Bool} (same : (x : ℕ) → x < rows commands → early x ≡ other x) where
+  -- the next command of an allowed thread is a row
+  picked-alike : (s : Replay) (t : ℕ) → picked early lengths s t ≡ picked other lengths s t
+  unfolding picked
+  picked-alike s t =
+      ⊎-elim (λ e. rw e (same (command lengths s t) (next-row commands lengths s t K (may lengths s t e)))) (λ e. rw e) (split (allowed lengths s t))
+
+  pub first-alike : (s : Replay) → pickedFirst early lengths s ≡ pickedFirst other lengths s
+  unfolding pickedFirst
+  first-alike s = rw (lowest-alike (picked early lengths s) (picked other lengths s) (length lengths) (λ k _. picked-alike s k))
+
+-- tables of what reaches what that are alike on rows
+module _ {commands lengths : List ℕ} (K : Keeps commands lengths) where
+  pub apart-alike : (ρ ρ′ : ℕ → ℕ → Bool) (c d : ℕ) → ((x : ℕ) → x < rows commands → ρ c x ≡ ρ′ c x) → apartSchedule commands lengths ρ c d ≡ apartSchedule commands lengths ρ′ c d
+  unfolding apartFrom
+  apart-alike ρ ρ′ c d same = schedule-alike (first-alike K (λ x l. rw (same x l))) commands lengths
+
+-- an empty list has no command go first
+pub nothing-first : (early : List Bool) → length early ≡ 0 → (x : ℕ) → goesFirst early x ≡ false
+nothing-first early e x = List·getD-eq-default early false (omega arith)
+
+-- ---- the list is filled from the front
+
+pub said-by : (ρ : ℕ → ℕ → Bool) (c d x : ℕ) {b : Bool} → b ≡ ρ c x → (eqb x d || not b) ≡ apartFrom ρ c d x
+unfolding apartFrom
+said-by ρ c d x e = rw e
+
+-- what stands before x is said of the commands before x
+pub record Said (ρ : ℕ → ℕ → Bool) (c d : ℕ) (before after : List Bool) (x : ℕ) : Type 0 where
+  pub long : length after ≡ length before
+  pub within : x ≤ length before
+  pub each : (k : ℕ) → k < x → goesFirst after k ≡ apartFrom ρ c d k
+
+module _ (ρ : ℕ → ℕ → Bool) (c d : ℕ) (before : List Bool) where
+  pub said-none : Said ρ c d before before 0
+  said-none = record { long = refl; within = omega arith; each = below-none _ }
+
+  module _ {after : List Bool} {x : ℕ} (S : Said ρ c d before after x) where
+    pub said-more : x < length after → (b : Bool) → b ≡ apartFrom ρ c d x → Said ρ c d before (set after x b) (x + 1)
+    said-more l b e =
+        record {
+          long = length-set after x b ∙ S .long;
+          within = omega (arith, S .long);
+          each = below-more _ x (λ k m. getD-set-other after x k b false (omega arith) ∙ S .each k m) (getD-set-same after x b false l ∙ e);
+        }
+
+    pub said-all : length after ≤ x → PutsApart ρ c d before after
+    said-all l = record { long = S .long; each = λ k m. S .each k (omega (arith, S .long)) }

@@ -1,7 +1,7 @@
 -- Where a verdict stands: no number of its place is above the limit of rows. What is told of a legal complete schedule, and how long
 -- a written one is. Assumes nothing.
 use mathlib.Core.Path.{_≡_, refl}
-use mathlib.Core.Logic.{_⊎_, inl, inr}
+use mathlib.Core.Logic.{_⊎_, inl, inr, ⊎-elim}
 use mathlib.Core.Bool.{Bool, true, false, cond, not}
 use mathlib.Core.List.{List, [], _∷_, reverse}
 use Prim.Native.Nat.{ℕ, zero, suc, _%_, _≤_, _<_}
@@ -25,10 +25,11 @@ use Rattle.replay.specs.Step.{allowed, stepped}
 use Rattle.replay.specs.Writer.{goesOn, stepping, scheduleBy, schedule}
 use Rattle.replay.specs.Ending.{isBlocked, barrierSet, lowestAllowed, lowestBlocked, lowestSet, lastRun, ended, judged}
 use Rattle.replay.specs.Replay.{played}
-use Rattle.replay.specs.Schedules.{stateAfter, Complete, stopped, mismatched}
+use Rattle.replay.specs.Schedules.{stateAfter, Complete, stopped, mismatched, Clean}
 use Rattle.replay.proofs.Programs.{threads}
 use Rattle.replay.proofs.Few.{legal-few}
 use Rattle.replay.proofs.Ties.{Stands, command-is, command-row}
+use Rattle.replay.proofs.Judged.{clean-told}
 use Rattle.replay.proofs.Plays.{Ends, through, refused-at, mismatched-at, plays-all}
 
 pub record Placed (t : Told) : Type 0 where
@@ -113,6 +114,11 @@ complete-told {commands} {lengths} σ (stopped c stop) =
     rw c (ended-told (ltb (lowestAllowed lengths s) (length lengths)) (ltb (lowestBlocked lengths s) (length lengths)) (ltb (lowestSet s) barriers) _ _ _
     (isnt _ (λ e. clashing (lowest-hit (allowed lengths s) (length lengths) e .1) (stop (lowestAllowed lengths s)))))
 complete-told σ (mismatched v _) = rw v (inr (omega arith, omega arith))
+
+-- what is complete and not clean ends in 7, 8 or 9
+pub dirty-told : {commands lengths : List ℕ} (σ : List ℕ) → Complete commands lengths σ → ¬ Clean commands lengths σ
+    → (7 ≤ judged lengths (played commands lengths σ) .number) × (judged lengths (played commands lengths σ) .number ≤ 9)
+dirty-told {commands} {lengths} σ c n = ⊎-elim (λ z. absurd (n (clean-told commands lengths σ z))) (λ w. w) (complete-told σ c)
 
 -- ---- a written schedule has no more steps than there are rows
 

@@ -10,7 +10,7 @@ use Rattle.tables.specs.Rules.{Keeps, checked}
 use Rattle.tables.specs.Verdicts.{tell, numbered}
 use Rattle.tables.specs.declared.verdict.Told.{Told}
 use Rattle.tables.specs.declared.verdict.Verdict.{Verdict}
-use Rattle.tables.proofs.Rules.{passes}
+use Rattle.tables.proofs.Rules.{passes, passes-zero}
 use Rattle.tables.proofs.Verdicts.{zero-told}
 use Rattle.replay.specs.InOrder.{orElse}
 use Rattle.replay.specs.Writer.{shortRoom, unwritten}
@@ -66,3 +66,10 @@ module _ (commands lengths : List ℕ) (v : Verdict) {told : Told} (check : numb
     pub unwritten-none : told .number ≡ 0 → rows commands ≤ room → tell 0 0 0 ≡ unwritten commands lengths room
     unfolding unwritten
     unwritten-none e l = sym (rw (le-ltb room (rows commands) l)) ∙ check-second (shortRoom (rows commands) room) e
+
+-- tables that the writer does not refuse pass
+pub unwritten-keeps : (commands lengths : List ℕ) (room : ℕ) → unwritten commands lengths room .number ≡ 0 → Keeps commands lengths
+unfolding unwritten
+unwritten-keeps commands lengths room e =
+    by-cases (ℕ-discrete (checked commands lengths .number) 0) (passes-zero commands lengths)
+    (λ (n : checked commands lengths .number ≢ 0). absurd (n (ap (λ (t : Told). t .number) (or-first (checked commands lengths) _ n) ∙ e)))

@@ -5,7 +5,7 @@ use mathlib.Core.List.{List, [], _∷_, _++_, reverse, reverse-cons, reverse-app
 use Prim.Native.Nat.{ℕ, _+_, _<_}
 use native.Mathlib.Omega.{arith}
 use native.Mathlib.Decide.{decLt}
-use lib.ListN.{length, length-append}
+use lib.ListN.{length, length-append, length-reverse}
 use Rattle.tables.specs.Limits.{barriers}
 use Rattle.tables.specs.Rows.{rows}
 use Rattle.tables.specs.Rules.{Keeps}
@@ -16,6 +16,7 @@ use Rattle.relation.proofs.Truth.{clashing, isnt}
 use Rattle.schedules.specs.Machine as machine
 use Rattle.schedules.specs.Threads as threads
 use Rattle.schedules.proofs.Tests.{not-matching}
+use Rattle.schedules.proofs.Theorems.{all-ran}
 use Rattle.replay.specs.declared.state.Replay.{Replay}
 use Rattle.replay.specs.declared.step.How.the-variants.{Mismatch, Ran}
 use Rattle.replay.specs.declared.step.Did.{Did}
@@ -28,6 +29,7 @@ use Rattle.replay.specs.Schedules.{Stops, Complete, stopped, mismatched,
 use Rattle.replay.proofs.Programs as programs
 use Rattle.replay.proofs.Tied as tied
 use Rattle.replay.proofs.Ties.{allowed-steps, steps-allowed, blocked-is, unset-is, no-barrier}
+use Rattle.replay.proofs.Few.{legal-all}
 use Rattle.replay.proofs.Plays.{Ends, through, refused-at, mismatched-at, Through, plays-all, legal-through, clean-through}
 
 -- verdicts of different numbers are not the same
@@ -138,3 +140,9 @@ module _ {table lengths : List ℕ} (K : Keeps table lengths) where
 
   pub generation-is : {σ : List ℕ} → Through K σ → (c : ℕ) → c < rows table → generation (played table lengths σ) c ≡ threads.gens P H (reverse σ) c
   generation-is T c l = T .gens .same c l
+
+  -- a clean schedule runs every command
+  pub clean-long : {σ : List ℕ} → Clean table lengths σ → length σ ≡ rows table
+  clean-long {σ} C =
+      let D = clean-to C in
+      sym (length-reverse σ) ∙ legal-all K (reverse σ) (D .legal) (all-ran (programs.lawful K) H (reverse σ) D)

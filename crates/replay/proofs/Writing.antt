@@ -16,15 +16,13 @@ use Rattle.tables.proofs.Lowest.{lowest-first, lowest-hit, lowest-miss}
 use Rattle.relation.proofs.Truth.{split, clashing, both}
 use Rattle.schedules.specs.Machine.{Program}
 use Rattle.schedules.specs.Threads as threads
-use Rattle.replay.specs.declared.choice.Choice.{Choice}
-use Rattle.replay.specs.declared.choice.Choice.the-variants.{Lowest, Apart}
 use Rattle.replay.specs.declared.state.Replay.{Replay}
 use Rattle.replay.specs.declared.step.Stepped.{Stepped}
 use Rattle.replay.specs.State.{start}
 use Rattle.replay.specs.Step.{allowed, stepped}
 use Rattle.replay.specs.Ending.{lowestAllowed}
 use Rattle.replay.specs.Program.{program}
-use Rattle.replay.specs.Writer.{goesOn, stepping, scheduleBy, schedule, FilledBy, picked, lowestPicked, pickedFirst, apartFrom, apartSchedule, chosen}
+use Rattle.replay.specs.Writer.{goesOn, stepping, scheduleBy, schedule, FilledBy, picked, lowestPicked, pickedFirst, apartFrom, apartSchedule}
 use Rattle.replay.specs.Schedules.{Complete}
 use Rattle.replay.proofs.Programs as programs
 use Rattle.replay.proofs.Few.{steps-few}
@@ -74,11 +72,6 @@ module _ (pick : ℕ → Bool) (lengths : List ℕ) where
             (split (ltb (lowestPicked pick lengths s) (length lengths)));
       }
 
-pub chosen-chooses : (commands lengths relation : List ℕ) (choice : Choice) → Chooses lengths (chosen commands lengths relation choice)
-unfolding chosen
-chosen-chooses commands lengths relation Lowest = lowest-chooses lengths
-chosen-chooses commands lengths relation (Apart c d) = picked-chooses (apartFrom relation (rows commands) c d) lengths
-
 module _ {commands lengths : List ℕ} (K : Keeps commands lengths) {choose : Replay → ℕ} (L : Chooses lengths choose) where
   abbrev P : Program
   P = program commands lengths
@@ -126,8 +119,8 @@ module _ {commands lengths : List ℕ} (K : Keeps commands lengths) where
   unfolding schedule
   schedule-complete = by-complete K (lowest-chooses lengths)
 
-  pub apart-complete : (relation : List ℕ) (c d : ℕ) → Complete commands lengths (apartSchedule commands lengths relation c d)
-  apart-complete relation c d = by-complete K (picked-chooses (apartFrom relation (rows commands) c d) lengths)
+  pub first-complete : (early : ℕ → Bool) → Complete commands lengths (scheduleBy (pickedFirst early lengths) commands lengths)
+  first-complete early = by-complete K (picked-chooses early lengths)
 
 -- ---- the loop: after i steps the room has what they are, and the rest of the schedule is what is written from the state
 

@@ -6,8 +6,10 @@ use Prim.Native.Nat.{ℕ}
 use lib.Dec.{eqb}
 use lib.ListN.{length, replicate}
 use Rattle.tables.specs.Limits.{mostRows}
+use Rattle.tables.specs.Rows.{rows}
 use Rattle.tables.specs.Rules.{checked}
 use Rattle.tables.specs.Verdicts.{numbered}
+use Rattle.relation.specs.Table.{related}
 use Rattle.replay.specs.declared.offered.Judged.{Judged}
 use Rattle.replay.specs.declared.writer.Written.{Written}
 use Rattle.replay.specs.InOrder.{orElse}
@@ -32,4 +34,4 @@ abbrev pub WritesSchedule : List ℕ → List ℕ → List ℕ → List ℕ → 
 WritesSchedule commands lengths = Writes (schedule commands lengths) commands lengths
 
 abbrev pub WritesApart : List ℕ → List ℕ → List ℕ → (c d : ℕ) → List ℕ → List ℕ → Written → Type 0
-WritesApart commands lengths relation c d = Writes (apartSchedule commands lengths relation c d) commands lengths
+WritesApart commands lengths relation c d = Writes (apartSchedule commands lengths (related relation (rows commands)) c d) commands lengths

@@ -3,17 +3,14 @@
 use mathlib.Core.Path.{_≡_}
 use mathlib.Core.Bool.{Bool, true, false, cond, not, _&&_, _||_}
 use mathlib.Core.List.{List, [], _∷_, _++_}
-use Prim.Native.Nat.{ℕ, zero, suc, _≤_}
+use Prim.Native.Nat.{ℕ, zero, suc, _≤_, _<_}
 use lib.Dec.{eqb, ltb}
-use lib.ListN.{length, drop}
+use lib.ListN.{length, drop, getD}
 use Rattle.tables.specs.Lowest.{lowest}
 use Rattle.tables.specs.Rows.{rows}
 use Rattle.tables.specs.Rules.{Keeps, checked}
 use Rattle.tables.specs.Verdicts.{tell}
 use Rattle.tables.specs.declared.verdict.Told.{Told}
-use Rattle.relation.specs.Table.{related}
-use Rattle.replay.specs.declared.choice.Choice.{Choice}
-use Rattle.replay.specs.declared.choice.Choice.the-variants.{Lowest, Apart}
 use Rattle.replay.specs.declared.state.Replay.{Replay}
 use Rattle.replay.specs.declared.step.How.the-variants.{Mismatch, Ran}
 use Rattle.replay.specs.declared.step.Did.{Did}
@@ -45,32 +42,41 @@ scheduleBy choose commands lengths = stepping choose commands lengths (rows comm
 unfoldable pub schedule : List ℕ → List ℕ → List ℕ
 schedule commands lengths = scheduleBy (lowestAllowed lengths) commands lengths
 
--- ---- a schedule that runs what one command does not reach first
+-- ---- a schedule in which some commands go first
 
--- x is d, or a command that a table of what reaches what does not have c reach
-unfoldable pub apartFrom : List ℕ → (m c d : ℕ) → ℕ → Bool
-apartFrom relation m c d x = eqb x d || not (related relation m c x)
-
--- thread t may step, and its next command passes a test
+-- thread t may step, and its next command goes first
 unfoldable pub picked : (ℕ → Bool) → List ℕ → Replay → ℕ → Bool
-picked pick lengths s t = allowed lengths s t && pick (command lengths s t)
+picked early lengths s t = allowed lengths s t && early (command lengths s t)
 
 -- the lowest such thread, or the number of threads
 abbrev pub lowestPicked : (ℕ → Bool) → List ℕ → Replay → ℕ
-lowestPicked pick lengths s = lowest (picked pick lengths s) (length lengths)
+lowestPicked early lengths s = lowest (picked early lengths s) (length lengths)
 
 -- Where there is such a thread, the lowest of them steps, and else the lowest allowed thread.
 unfoldable pub pickedFirst : (ℕ → Bool) → List ℕ → Replay → ℕ
-pickedFirst pick lengths s = cond (ltb (lowestPicked pick lengths s) (length lengths)) (lowestPicked pick lengths s) (lowestAllowed lengths s)
+pickedFirst early lengths s = cond (ltb (lowestPicked early lengths s) (length lengths)) (lowestPicked early lengths s) (lowestAllowed lengths s)
+
+-- d, and what c does not reach
+unfoldable pub apartFrom : (ℕ → ℕ → Bool) → (c d : ℕ) → ℕ → Bool
+apartFrom ρ c d x = eqb x d || not (ρ c x)
 
 -- d and what c does not reach go first, as far as they can
-abbrev pub apartSchedule : List ℕ → List ℕ → List ℕ → (c d : ℕ) → List ℕ
-apartSchedule commands lengths relation c d = scheduleBy (pickedFirst (apartFrom relation (rows commands) c d) lengths) commands lengths
+abbrev pub apartSchedule : List ℕ → List ℕ → (ℕ → ℕ → Bool) → (c d : ℕ) → List ℕ
+apartSchedule commands lengths ρ c d = scheduleBy (pickedFirst (apartFrom ρ c d) lengths) commands lengths
 
--- the thread that steps, by what the writer was asked for
-unfoldable pub chosen : List ℕ → List ℕ → List ℕ → Choice → Replay → ℕ
-chosen commands lengths relation Lowest = lowestAllowed lengths
-chosen commands lengths relation (Apart c d) = pickedFirst (apartFrom relation (rows commands) c d) lengths
+-- ---- which commands go first, as a list that a function is lent
+
+-- a command goes first where the list says so; a list that is too short says no
+abbrev pub goesFirst : List Bool → ℕ → Bool
+goesFirst early x = getD early x false
+
+abbrev pub firstSchedule : List Bool → List ℕ → List ℕ → List ℕ
+firstSchedule early commands lengths = scheduleBy (pickedFirst (goesFirst early) lengths) commands lengths
+
+-- the list says it of d and of what c does not reach
+pub record PutsApart (ρ : ℕ → ℕ → Bool) (c d : ℕ) (before after : List Bool) : Type 0 where
+  pub long : length after ≡ length before
+  pub each : (x : ℕ) → x < length before → goesFirst after x ≡ apartFrom ρ c d x
 
 -- ---- refusals, and the room
 

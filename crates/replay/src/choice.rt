@@ -1,83 +1,49 @@
 // Which thread a schedule writer lets step.
 ghost use mathlib.Core.Path.{_≡_};
+ghost use Prim.Native.Nat.{_≤_};
 ghost use lib.ListN.{length};
-ghost use Rattle.tables.specs.Rows.{rows};
-ghost use Rattle.tables.specs.Rules.{Keeps};
-ghost use Rattle.tables.specs.Lowest.{lowest};
-ghost use Rattle.replay.specs.Writer.{apartFrom, picked, chosen};
+ghost use Rattle.tables.specs.Limits.{mostThreads};
+ghost use Rattle.replay.specs.Writer.{goesFirst, lowestPicked, pickedFirst};
 use crate::state::Replay;
-use relation::related;
-use tables::first_row;
 
-// The lowest thread that may; or before it the lowest whose next command is a second number, or a command that the first does not reach.
-pub(crate) enum Choice {
-    Lowest,
-    Apart(u32, u32),
+// Does command x go first? A list that is too short says no.
+fn goes_first(early: &[bool], x: usize) -> bool
+    ensures { λ r. ⌜ r ≡ goesFirst (now (early .entry)) x ⌝ }
+{
+    if x < early.len() {
+        return early[x];
+    }
+    false
 }
 
 impl Replay {
-    // May thread t step, and is its next command d, or one that c does not reach?
-    fn picks(
-        self,
-        commands: &[u32],
-        lengths: &[u32],
-        relation: &[u32],
-        c: u32,
-        d: u32,
-        t: usize,
-    ) -> bool
-        requires { ⌜ Keeps (now commands) (now lengths) ⌝ }
-        ensures { λ r. ⌜ r ≡ picked (apartFrom (now (relation .entry)) (rows (now (commands .entry))) c d) (now (lengths .entry)) self t ⌝ }
+    // The lowest thread that may step with a command that goes first, or the number of threads.
+    fn lowest_picked(self, lengths: &[u32], early: &[bool]) -> usize
+        requires { ⌜ length (now lengths) ≤ mostThreads ⌝ }
+        ensures { λ r. ⌜ r ≡ lowestPicked (goesFirst (now (early .entry))) (now (lengths .entry)) self ⌝ }
     {
-        if !self.allows(lengths, t) {
-            return false;
-        }
-        let n = self.next[t] as usize;
-        let x = (first_row(lengths, t) + n) as u32;
-        if x == d {
-            return true;
-        }
-        let m = (commands.len() / 3) as u32;
-        !related(relation, m, c, x)
-    }
-
-    // The lowest such thread, or the number of threads.
-    fn lowest_picked(
-        self,
-        commands: &[u32],
-        lengths: &[u32],
-        relation: &[u32],
-        c: u32,
-        d: u32,
-    ) -> usize
-        requires { ⌜ Keeps (now commands) (now lengths) ⌝ }
-        ensures { λ r. ⌜ r ≡ lowest (picked (apartFrom (now (relation .entry)) (rows (now (commands .entry))) c d) (now (lengths .entry)) self) (length (now (lengths .entry))) ⌝ }
-    {
+        let mut row = 0;
         let mut t = 0;
         while t < lengths.len() {
-            if self.picks(commands, lengths, relation, c, d, t) {
+            let c = row + self.next[t] as usize;
+            if self.allows(lengths, t) & goes_first(early, c) {
                 return t;
             }
+            row += lengths[t] as usize;
             t += 1;
         }
         t
     }
 
-    // The thread that steps, or the number of threads.
-    pub(crate) fn choose(
-        self,
-        commands: &[u32],
-        lengths: &[u32],
-        relation: &[u32],
-        choice: Choice,
-    ) -> usize
-        requires { ⌜ Keeps (now commands) (now lengths) ⌝ }
-        ensures { λ r. ⌜ r ≡ chosen (now (commands .entry)) (now (lengths .entry)) (now (relation .entry)) choice self ⌝ }
+    // The lowest such thread, or else the lowest that may step, or the number of threads. Where no command goes first, the first scan is spared.
+    pub(crate) fn choose(self, lengths: &[u32], early: &[bool]) -> usize
+        requires { ⌜ length (now lengths) ≤ mostThreads ⌝ }
+        ensures { λ r. ⌜ r ≡ pickedFirst (goesFirst (now (early .entry))) (now (lengths .entry)) self ⌝ }
     {
-        let Choice::Apart(c, d) = choice else {
+        if early.len() == 0 {
             return self.lowest_allowed(lengths);
-        };
-        let t = self.lowest_picked(commands, lengths, relation, c, d);
+        }
+        let t = self.lowest_picked(lengths, early);
         if t < lengths.len() {
             return t;
         }

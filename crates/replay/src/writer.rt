@@ -1,11 +1,16 @@
-// The schedule writers: at each step a thread that is chosen steps.
+// The schedule writers: at each step the chosen thread steps.
 ghost use mathlib.Core.Path.{_≡_};
-ghost use Rattle.replay.specs.Writer.{goesOn, chosen, scheduleBy, Fits, FilledBy};
-ghost use Rattle.replay.specs.Doors.{WritesSchedule, WritesApart};
-use crate::choice::Choice;
+ghost use Prim.Native.Nat.{_≤_, min};
+ghost use lib.ListN.{length};
+ghost use Rattle.tables.specs.Limits.{mostRows};
+ghost use Rattle.relation.specs.Table.{related};
+ghost use Rattle.replay.specs.Writer.{goesOn, firstSchedule, Fits, FilledBy, PutsApart};
+ghost use Rattle.replay.specs.Doors.{Writes, WritesSchedule, WritesApart};
 use crate::state::Replay;
 use crate::step::Did;
 use crate::step::How;
+use relation::related;
+use tables::Table;
 use tables::Verdict;
 use tables::check_tables;
 
@@ -28,22 +33,16 @@ fn goes_on(did: Did) -> bool
     }
 }
 
-// The schedule into the room, and its length. No schedule has more than M steps.
-fn write(
-    commands: &[u32],
-    lengths: &[u32],
-    relation: &[u32],
-    choice: Choice,
-    room: &mut [u32],
-) -> usize
+// The schedule in which the commands of a list go first, into the room, and its length. No schedule has more than M steps.
+fn write(commands: &[u32], lengths: &[u32], early: &[bool], room: &mut [u32]) -> usize
     requires { ⌜ Fits (now commands) (now lengths) (now room) ⌝ }
-    ensures { λ r. ⌜ FilledBy (scheduleBy (chosen (now (commands .entry)) (now (lengths .entry)) (now (relation .entry)) choice) (now (commands .entry)) (now (lengths .entry))) (now (room .entry)) (now (room .exit)) r ⌝ }
+    ensures { λ r. ⌜ FilledBy (firstSchedule (now (early .entry)) (now (commands .entry)) (now (lengths .entry))) (now (room .entry)) (now (room .exit)) r ⌝ }
 {
     let m = commands.len() / 3;
     let mut state = Replay::start();
     let mut steps = 0;
     while steps < m {
-        let t = state.choose(commands, lengths, relation, choice);
+        let t = state.choose(lengths, early);
         if t == lengths.len() {
             return steps;
         }
@@ -59,9 +58,9 @@ fn write(
     steps
 }
 
-// Always the lowest allowed thread steps.
-pub fn write_schedule(commands: &[u32], lengths: &[u32], room: &mut [u32]) -> Written
-    ensures { λ r. ⌜ WritesSchedule (now (commands .entry)) (now (lengths .entry)) (now (room .entry)) (now (room .exit)) r ⌝ }
+// The same for any tables and any room: refusals 1 to 4 come first.
+fn write_first(commands: &[u32], lengths: &[u32], early: &[bool], room: &mut [u32]) -> Written
+    ensures { λ r. ⌜ Writes (firstSchedule (now (early .entry)) (now (commands .entry)) (now (lengths .entry))) (now (commands .entry)) (now (lengths .entry)) (now (room .entry)) (now (room .exit)) r ⌝ }
 {
     let verdict = check_tables(commands, lengths);
     if verdict.number().number != 0 {
@@ -73,15 +72,43 @@ pub fn write_schedule(commands: &[u32], lengths: &[u32], room: &mut [u32]) -> Wr
             length: 0,
         };
     }
-    let length = write(commands, lengths, commands, Choice::Lowest, room);
+    let length = write(commands, lengths, early, room);
     Written {
         verdict: Verdict::Clean,
         length,
     }
 }
 
-// The lowest allowed thread steps whose next command is d, or one that c does not reach in a table of what reaches what; where there is
-// none, the lowest allowed thread.
+// No command goes first: always the lowest allowed thread steps.
+pub fn write_schedule(commands: &[u32], lengths: &[u32], room: &mut [u32]) -> Written
+    ensures { λ r. ⌜ WritesSchedule (now (commands .entry)) (now (lengths .entry)) (now (room .entry)) (now (room .exit)) r ⌝ }
+{
+    write_first(commands, lengths, &[], room)
+}
+
+// The rows of tables that pass, which are few; of other tables it doesn't matter, since they are refused.
+fn few(m: usize) -> u32
+    ensures { λ r. ⌜ r ≡ min m mostRows ⌝ }
+{
+    if m < Table::ROWS {
+        return m as u32;
+    }
+    Table::ROWS as u32
+}
+
+// d goes first, and each command that c does not reach in a table of m rows.
+fn put_apart(relation: &[u32], m: u32, c: u32, d: u32, early: &mut [bool])
+    requires { ⌜ length (now early) ≤ mostRows ⌝ }
+    ensures { λ _. ⌜ PutsApart (related (now (relation .entry)) m) c d (now (early .entry)) (now (early .exit)) ⌝ }
+{
+    let mut x = 0;
+    while x < early.len() {
+        early[x] = (x == d as usize) | !related(relation, m, c, x as u32);
+        x += 1;
+    }
+}
+
+// d and what c does not reach in a table of what reaches what go first, as far as they can.
 pub fn write_apart(
     commands: &[u32],
     lengths: &[u32],
@@ -92,19 +119,7 @@ pub fn write_apart(
 ) -> Written
     ensures { λ r. ⌜ WritesApart (now (commands .entry)) (now (lengths .entry)) (now (relation .entry)) c d (now (room .entry)) (now (room .exit)) r ⌝ }
 {
-    let verdict = check_tables(commands, lengths);
-    if verdict.number().number != 0 {
-        return Written { verdict, length: 0 };
-    }
-    if room.len() < commands.len() / 3 {
-        return Written {
-            verdict: Verdict::ShortRoom(2),
-            length: 0,
-        };
-    }
-    let length = write(commands, lengths, relation, Choice::Apart(c, d), room);
-    Written {
-        verdict: Verdict::Clean,
-        length,
-    }
+    let mut early = [false; Table::ROWS];
+    put_apart(relation, few(commands.len() / 3), c, d, &mut early);
+    write_first(commands, lengths, &early, room)
 }

@@ -38,6 +38,7 @@ use Rattle.review.specs.Judge.{generations, reaches}
 use Rattle.replay.specs.Schedules.{stateAfter, Stops, Complete, stopped, mismatched, Clean, Agree, Disagree, unclean}
 use Rattle.replay.specs.Schedules as schedules
 use Rattle.review.specs.Agreement.{Judges}
+use Rattle.replay.proofs.Judged.{stops-by, clean-by}
 use Rattle.replay.proofs.Programs as programs
 use Rattle.replay.proofs.Plays.{Ends, through, refused-at, mismatched-at, Through, plays-all, clean-through, legal-through}
 use Rattle.replay.proofs.Schedules.{unlike, complete-from, clean-to, generation-is}
@@ -187,12 +188,6 @@ module _ {table lengths : List ℕ} (K : Keeps table lengths) (σ : List ℕ) wh
 
   -- all steps ran: it ended by 6, 8, 9, or clean
   module _ (c : (played table lengths σ) .verdict ≡ verdict.Clean) where
-    stops : ltb (lowestAllowed lengths (stateAfter table lengths σ)) (length lengths) ≡ false → Stops table lengths σ
-    unfolding allowed
-    stops e t =
-        by-cases (decLt t (length lengths)) (λ (l : t < length lengths). lowest-miss (allowed lengths (stateAfter table lengths σ)) (length lengths) e t l)
-        (λ (n : ¬ (t < length lengths)). rw (le-ltb t (length lengths) (omega arith)))
-
     judges-through : (a b d : Bool) → ltb (lowestAllowed lengths (stateAfter table lengths σ)) (length lengths) ≡ a → ltb (lowestBlocked lengths (stateAfter table lengths σ)) (length lengths) ≡ b
         → ltb (lowestSet (stateAfter table lengths σ)) barriers ≡ d
         → Judges table lengths σ
@@ -206,18 +201,12 @@ module _ {table lengths : List ℕ} (K : Keeps table lengths) (σ : List ℕ) wh
         incomplete (mismatched v _) h = unlike (sym c ∙ v) (λ z. omega arith)
     judges-through false true d ea eb ed =
         let (l, h) = lowest-hit (isBlocked (stateAfter table lengths σ)) (length lengths) eb in
-        judges-disagree 8 (unclean σ (stopped c (stops ea)) (λ C. clashing h (C .unblocked _ l))) (omega arith) (omega arith)
+        judges-disagree 8 (unclean σ (stopped c (stops-by table lengths σ ea)) (λ C. clashing h (C .unblocked _ l))) (omega arith) (omega arith)
     judges-through false false true ea eb ed =
         let (l, h) = lowest-hit (barrierSet (stateAfter table lengths σ)) barriers ed in
-        judges-disagree 9 (unclean σ (stopped c (stops ea)) (λ C. clashing h (C .unset _ l))) (omega arith) (omega arith)
+        judges-disagree 9 (unclean σ (stopped c (stops-by table lengths σ ea)) (λ C. clashing h (C .unset _ l))) (omega arith) (omega arith)
     judges-through false false false ea eb ed =
-        judges-clean
-        (record {
-          through = c;
-          stops = stops ea;
-          unblocked = lowest-miss (isBlocked (stateAfter table lengths σ)) (length lengths) eb;
-          unset = lowest-miss (barrierSet (stateAfter table lengths σ)) barriers ed;
-        })
+        judges-clean (clean-by table lengths σ c ea eb ed)
 
   pub judges : Judges table lengths σ (told .number)
   unfolding judged ended

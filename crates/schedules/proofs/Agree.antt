@@ -1,7 +1,7 @@
 -- A state T of the generations of a final state S: what is complete in one is complete in the other, and with no reuse fault T goes on so.
 use mathlib.Core.Path.{_≡_, refl, sym, ap, _∙_}
 use mathlib.Core.Logic.{⊎-elim, by-cases, _≢_}
-use mathlib.Core.Bool.{true, false}
+use mathlib.Core.Bool.{Bool, true, false}
 use mathlib.Core.List.{List, [], _∷_}
 use Prim.Native.Nat.{ℕ, suc, pred, _≤_, _<_}
 use native.Mathlib.Omega.{arith}
@@ -131,16 +131,28 @@ module _ {P : Program} (W : Lawful P) {S : State} (F : Final P S) where
             sym (gen-other P (state P l) c x n) ∙ same x (ran-kept P (state P l) c x r);
       }
 
+  -- D has, with each command, those that have an edge to it: a state that no step of D can follow has run all of D that a log of S's generations has
+  module _ (D : ℕ → Bool) (shut : (y z : ℕ) → Edge P (S .gen) y z → D z ≡ true → D y ≡ true) where
+    pub catches-up : {T : State} → Agrees P S T → ((c : ℕ) → D c ≡ true → ¬ Allowed P T c)
+        → (l : List ℕ) → LegalLog P l → Same S (state P l) → (x : ℕ) → state P l .ran x ≡ true → D x ≡ true → T .ran x ≡ true
+    unfolding state
+    catches-up E stop [] h same x e d = clashing e refl
+    catches-up {T} E stop (c ∷ l) h same x e d =
+        let A = h .1 in
+        let B : Agrees P S (state P l) = shorter c l h same in
+        let ih = catches-up E stop l (h .0) (B .same) in
+        by-cases (ℕ-discrete c x)
+        (λ (q : c ≡ x).
+        let dc : D c ≡ true = ap D q ∙ d in
+        ap (T .ran) (sym q)
+        ∙ has-run c (stop c dc) (A .low)
+        (λ y a b.
+        let r = A .ready y a b in
+        let dy = shut y c (along (A .low) a b) dc in
+        carry B E y r (ih y (r .run) dy) (λ z edge ran. ih z ran (shut z y edge dy))))
+        (λ (n : c ≢ x). ih x (sym (ran-other P (state P l) c x n) ∙ e) d)
+
   -- a state that no step can follow has run all that a log of S's generations has
   pub overtakes : {T : State} → Agrees P S T → ((c : ℕ) → ¬ Allowed P T c)
       → (l : List ℕ) → LegalLog P l → Same S (state P l) → (x : ℕ) → state P l .ran x ≡ true → T .ran x ≡ true
-  unfolding state
-  overtakes E stop [] h same x e = clashing e refl
-  overtakes {T} E stop (c ∷ l) h same x e =
-      let A = h .1 in
-      let D : Agrees P S (state P l) = shorter c l h same in
-      let ih = overtakes E stop l (h .0) (D .same) in
-      by-cases (ℕ-discrete c x)
-      (λ (q : c ≡ x).
-      ap (T .ran) (sym q) ∙ has-run stop c (A .low) (λ y a b. let r = A .ready y a b in carry D E y r (ih y (r .run)) (λ z _. ih z)))
-      (λ (n : c ≢ x). ih x (sym (ran-other P (state P l) c x n) ∙ e))
+  overtakes E stop l h same x e = catches-up (λ _. true) (λ y z _ _. refl) E (λ c _. stop c) l h same x e refl

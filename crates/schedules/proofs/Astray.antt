@@ -13,38 +13,17 @@ use Rattle.schedules.specs.Order.{Edge, along, Reaches, Waits, Reuse, No
 use Rattle.schedules.proofs.Tally.{find}
 use Rattle.schedules.proofs.Logs.{Allowed, LegalLog, CleanLog}
 use Rattle.schedules.proofs.Step.{ran-other}
-use Rattle.schedules.proofs.Good.{good, lacking}
+use Rattle.schedules.proofs.Good.{good}
 use Rattle.schedules.proofs.Final.{Final, final}
-use Rattle.schedules.proofs.Agree.{Agrees, Same, carry, grown, shorter}
+use Rattle.schedules.proofs.Agree.{Agrees, catches-up}
 use Rattle.schedules.proofs.Sound.{agrees}
 use Rattle.schedules.proofs.Cut.{apart, apart-in, apart-out, shut}
+use Rattle.schedules.proofs.Soon.{soon}
 use Rattle.schedules.specs.Shows.{Avoids}
-
-module _ {P : Program} (W : Lawful P) {S : State} (F : Final P S) (D : ℕ → Bool) (shut : (y z : ℕ) → Edge P (S .gen) y z → D z ≡ true → D y ≡ true) where
-  open Program P using (size, first)
-
-  -- in a state in which nothing of D is allowed, all of D has run that a log of S's generations has run
-  pub catches-up : {T : State} → Agrees P S T → ((c : ℕ) → D c ≡ true → ¬ Allowed P T c)
-      → (l : List ℕ) → LegalLog P l → Same S (state P l) → (x : ℕ) → state P l .ran x ≡ true → D x ≡ true → T .ran x ≡ true
-  unfolding state
-  catches-up E stop [] h same x e d = clashing e refl
-  catches-up {T} E stop (c ∷ l) h same x e d =
-      let A = h .1 in
-      let B : Agrees P S (state P l) = shorter W F c l h same in
-      let ih = catches-up E stop l (h .0) (B .same) in
-      by-cases (ℕ-discrete c x)
-      (λ (q : c ≡ x).
-      let dc : D c ≡ true = ap D q ∙ d in
-      let ready : (y : ℕ) → c ≡ suc y → first c ≡ false → Ready P T y = λ y a b.
-      let r = A .ready y a b in
-      let dy = shut y c (along (A .low) a b) dc in
-      carry W F B E y r (ih y (r .run) dy) (λ z edge ran. ih z ran (shut z y edge dy)) in
-      ap (T .ran) (sym q) ∙ ⊎-elim (λ (t : T .ran c ≡ true). t) (λ (f : T .ran c ≡ false). absurd (stop c dc (record { low = A .low; fresh = f; ready = ready }))) (split (T .ran c)))
-      (λ (n : c ≢ x). ih x (sym (ran-other P (state P l) c x n) ∙ e) d)
 
 module _ {P : Program} (W : Lawful P) {σ : List ℕ} (C : CleanLog P σ) {c d : ℕ} (lc : c < P .size) {E : ℕ → Bool} (Q : Avoids P (state P σ .gen) c d E)
     (τ : List ℕ) (only : (x : ℕ) → state P τ .ran x ≡ true → E x ≡ true) (none : (x : ℕ) → E x ≡ true → ¬ Allowed P (state P τ) x) where
-  open Program P using (size, first, barrier)
+  open Program P using (size)
 
   abbrev S : State
   S = state P σ
@@ -70,33 +49,8 @@ module _ {P : Program} (W : Lawful P) {σ : List ℕ} (C : CleanLog P σ) {c d :
   -- ---- a reuse fault: it does not agree
 
   module _ (R : Reuse P (S .gen) c d) where
-    module _ (A : Agrees P S T) where
-      -- c has not run, so its generation is not complete
-      behind : ¬ (S .gen c ≤ T .done (barrier d))
-      behind l =
-          let r = R .succeeds in
-          let m : Member P S (barrier d) (S .gen c) c = record { run = F .all c lc; reg = r .reg₁; at = r .at; gen = refl } in
-          clashing (grown F A l m .run) not-c
-
-      fresh : T .ran d ≡ false
-      fresh =
-          isnt (T .ran d)
-          (λ t.
-          let r = R .succeeds in
-          let e : T .gen d ≡ suc (S .gen c) = A .same d t ∙ r .gen in
-          let m : Member P T (barrier d) (T .gen d) d = record { run = t; reg = r .reg₂; at = refl; gen = refl } in
-          by-cases (decLe (T .gen d) (T .done (barrier d))) (λ (l : T .gen d ≤ T .done (barrier d)). behind (omega arith))
-          (λ (n : ¬ (T .gen d ≤ T .done (barrier d))). behind (omega (arith, lacking (A .good) m n .0))))
-
-      ready : (y : ℕ) → d ≡ suc y → first d ≡ false → Ready P T y
-      ready y e f =
-          let low : y < size = omega (arith, R .succeeds .low₂) in
-          let far : ¬ Reaches P (S .gen) c y = λ p. R .loose (record { before = y; is-before = e; not-first = f; reached = p }) in
-          carry W F (record { good = F .good; same = λ x e. refl }) A y (C .free y (F .all y low)) (has-all A y low far)
-          (λ x edge ran. let lx = F .good .low x ran in has-all A x lx (λ p. apart-out lc lx (shut W C lc x y edge (apart-in lc low far)) p))
-
-      agrees-not : ⊥
-      agrees-not = none d (Q .also) (record { low = R .succeeds .low₂; fresh = fresh; ready = ready })
+    agrees-not : ¬ Agrees P S T
+    agrees-not A = none d (Q .also) (soon W C R A not-c (has-all A))
 
     pub astray : LegalLog P τ → (x : ℕ) × (x < size) × (T .ran x ≡ true) × (T .gen x ≢ S .gen x)
     astray L = go (find size differs?)

@@ -52,7 +52,7 @@ module _ {P : Program} (W : Lawful P) {S : State} (F : Final P S) where
   -- D has, with each command, those that have an edge to it
   module _ (D : ℕ → Bool) (shut : (y z : ℕ) → Edge P (S .gen) y z → D z ≡ true → D y ≡ true) where
     -- where the command before c is ready in l and in D, c is allowed in the part
-    pub allowed-in : (l : List ℕ) → Agrees P S (state P l) → (K : Part P S D l) → (c : ℕ) → c < size → state P (K .log) .ran c ≡ false
+    allowed-in : (l : List ℕ) → Agrees P S (state P l) → (K : Part P S D l) → (c : ℕ) → c < size → state P (K .log) .ran c ≡ false
         → ((y : ℕ) → c ≡ suc y → first c ≡ false → Ready P (state P l) y × (D y ≡ true)) → Allowed P (state P (K .log)) c
     allowed-in l E K c low fresh ready =
         record {

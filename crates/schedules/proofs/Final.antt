@@ -41,10 +41,10 @@ module _ {P : Program} (W : Lawful P) where
           absurd (omega (arith, tally-pos size (member P s b (suc (s .done b))) x (G .low x (h .run)) (member-in (rw e at h)), C .unset b)))
 
       all : (x : ℕ) → x < size → s .ran x ≡ true
-      all zero l = has-run (C .stops) zero l (λ y e. absurd (omega arith))
+      all zero l = has-run zero (C .stops zero) l (λ y e. absurd (omega arith))
       all (suc y) l =
           let before : s .ran y ≡ true = all y (omega arith) in
-          has-run (C .stops) (suc y) l (λ z e f. subst (Ready P s) (suc-inj e) (C .free y before))
+          has-run (suc y) (C .stops (suc y)) l (λ z e f. subst (Ready P s) (suc-inj e) (C .free y before))
 
   pub clean-of : {l : List ℕ} → LegalLog P l → StopsLog P l → ((b k x : ℕ) → Member P (state P l) b k x → k ≤ state P l .done b) → CleanLog P l
   unfolding registered

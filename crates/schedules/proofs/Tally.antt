@@ -62,6 +62,11 @@ tally-pos zero p c l e = absurd (omega arith)
 tally-pos (suc n) p c l e =
     by-cases (ℕ-discrete n c) (λ (s : n ≡ c). rw (s, e) (omega arith)) (λ (s : n ≢ c). omega (arith, tally-pos n p c (omega arith) e))
 
+pub tally-all : (n : ℕ) (p : ℕ → Bool) → ((i : ℕ) → i < n → p i ≡ true) → tally n p ≡ n
+unfolding tally
+tally-all zero p h = refl
+tally-all (suc n) p h = rw (h n (omega arith)) (omega (arith, tally-all n p (λ i l. h i (omega arith))))
+
 pub tally-none : (n : ℕ) (p : ℕ → Bool) → ((i : ℕ) → i < n → ¬ (p i ≡ true)) → tally n p ≡ 0
 unfolding tally
 tally-none zero p h = refl

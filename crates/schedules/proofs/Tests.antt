@@ -16,10 +16,10 @@ use Rattle.schedules.proofs.Good.{Good}
 pub not-matching : {P : Program} {s : State} {c : ℕ} → Mismatch P s c → ¬ Matches P s c
 not-matching w m = clashing (w .clashes) (m (w .reg) (w .with) (w .waits))
 
--- where no command is allowed, one that follows a ready command has run
-pub has-run : {P : Program} {s : State} → ((c : ℕ) → ¬ Allowed P s c) → (c : ℕ) → c < P .size → ((y : ℕ) → c ≡ suc y → P .first c ≡ false → Ready P s y) → s .ran c ≡ true
-has-run {s = s} stop c l r =
-    ⊎-elim (λ (t : s .ran c ≡ true). t) (λ (f : s .ran c ≡ false). absurd (stop c (record { low = l; fresh = f; ready = r }))) (split (s .ran c))
+-- a command that follows a ready one and is not allowed has run
+pub has-run : {P : Program} {s : State} (c : ℕ) → ¬ Allowed P s c → c < P .size → ((y : ℕ) → c ≡ suc y → P .first c ≡ false → Ready P s y) → s .ran c ≡ true
+has-run {s = s} c stop l r =
+    ⊎-elim (λ (t : s .ran c ≡ true). t) (λ (f : s .ran c ≡ false). absurd (stop (record { low = l; fresh = f; ready = r }))) (split (s .ran c))
 
 module _ (P : Program) (s : State) where
   open Program P using (size, first, registers, syncs, barrier, clash)

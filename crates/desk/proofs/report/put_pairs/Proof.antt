@@ -5,10 +5,10 @@ use native.Mathlib.Omega.{arith}
 use lib.ListN.{length, take, length-map}
 use borrow.Author.Needs.{needs}
 use Rattle.sheet.specs.Sheet.{mostKept, pair}
-use Rattle.desk.specs.Putting.{PutsBytes}
+use Rattle.printing.specs.Putting.{PutsBytes}
+use Rattle.printing.proofs.Placing.{puts-none, puts-on, puts-long}
 use Rattle.desk.specs.Report.{pairLines}
-use Rattle.desk.proofs.Placing.{puts-none, puts-on, puts-long}
-use Rattle.desk.proofs.Lines.{pairs-next, pairs-room}
+use Rattle.desk.proofs.Lines.{pairs-next}
 use Rattle.desk.proofs.report.put_pairs.Statement.{statement}
 use Rattle.desk.proofs.report.put_pairs.Tie as tie
 
@@ -25,21 +25,6 @@ loop-holds c =
     let s = c .before .before in
     (puts-none _ _, omega arith, sym (length-map (s .args .t3 .pairs) _) ∙ s .good .1 .1 .0 .1 .1 .0 .1 .0 .1)
 
-put-two-requires : tie.Need-put-two-requires Inv-loop μ-loop
-unfolding mostKept
-put-two-requires c κs =
-    let l = c .before .before .before in
-    let n = l .before .least in
-    let s = l .before .before .before in
-    let e : n .result ≡ min (s .args .t3 .total) 16 = omega (arith, n .ensures) in
-    omega (
-      arith,
-      rw (← e) at (s .pre),
-      pairs-room (s .args .t3 .pairs) (l .loop .i) (pair 0 0) (n .result) (c .before .before .loop-test .taken) (omega (arith, e, l .loop .inv .2)),
-      l .loop .inv .0 .on,
-      puts-long (l .loop .inv .0),
-    )
-
 loop-again : tie.Need-loop-again Inv-loop μ-loop
 loop-again c =
     let l = c .before .before .before .before .before .before in
@@ -50,9 +35,6 @@ loop-again c =
       omega (arith, i<n),
       l .loop .inv .2,
     )
-
-same-length : tie.Need-same-length Inv-loop μ-loop
-same-length c = puts-long (c .before .loop .inv .0)
 
 returns : tie.Need-returns Inv-loop μ-loop
 unfolding mostKept
@@ -72,9 +54,9 @@ put-pairs-spec =
     loop-holds
     (λ c. search needs)
     (λ c. search needs)
-    put-two-requires
+    (λ c κs. search needs)
     (λ c. search needs)
     (λ c. search needs)
     loop-again
-    same-length
+    (λ c. puts-long (returns c))
     returns)

@@ -7,24 +7,24 @@ use borrow.Author.Needs.{needs}
 use borrow.Author.Tests.{not-true, not-false}
 use Rattle.tables.specs.Limits.{mostThreads}
 use Rattle.tables.specs.Rows.{rows}
-use Rattle.replay.specs.Writer.{chosen}
+use Rattle.replay.specs.Writer.{goesFirst, pickedFirst}
 use Rattle.replay.proofs.Standing.{standing-counts}
-use Rattle.replay.proofs.Writing.{Writing, chosen-chooses, writing-start, writing-long, writing-end, writing-none, writing-thread, writing-more, writing-last}
+use Rattle.replay.proofs.Writing.{Writing, picked-chooses, writing-start, writing-long, writing-end, writing-none, writing-thread, writing-more, writing-last}
 use Rattle.replay.proofs.writer.write.Statement.{statement}
 use Rattle.replay.proofs.writer.write.Tie as tie
 
 abbrev Inv-loop : tie.InvT-loop
-Inv-loop commands lengths relation choice room₀ m state₀ steps₀ room state steps =
-    Writing (chosen commands lengths relation choice) commands lengths room₀ room state steps × (m ≡ rows commands)
+Inv-loop commands lengths early room₀ m state₀ steps₀ room state steps =
+    Writing (pickedFirst (goesFirst early) lengths) commands lengths room₀ room state steps × (m ≡ rows commands)
 
 abbrev μ-loop : tie.MeasureT-loop
-μ-loop commands lengths relation choice room₀ m state₀ steps₀ room state steps = m - steps
+μ-loop commands lengths early room₀ m state₀ steps₀ room state steps = m - steps
 
 loop-holds : tie.Need-loop-holds Inv-loop μ-loop
-loop-holds c = let s = c .before .before .before .before .before in (rw (c .start .ensures) (writing-start _ _ _ _ (chosen-chooses _ _ _ _) (s .pre .keeps) (s .pre .fits)), refl)
+loop-holds c = let s = c .before .before .before .before .before in (rw (c .start .ensures) (writing-start _ _ _ _ (picked-chooses _ _) (s .pre .keeps) (s .pre .fits)), refl)
 
 choose-requires : tie.Need-choose-requires Inv-loop μ-loop
-choose-requires c κs = c .before .loop .inv .0 .standing .keeps
+choose-requires c κs = c .before .loop .inv .0 .standing .keeps .few-threads
 
 same-length : tie.Need-same-length Inv-loop μ-loop
 same-length c = writing-long _ _ _ _ (c .before .before .before .loop .inv .0)

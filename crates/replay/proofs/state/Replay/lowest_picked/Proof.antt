@@ -1,35 +1,111 @@
--- `Replay::lowest_picked` meets its contract: no thread that the loop has passed is picked. Assumes nothing.
-use mathlib.Core.Path.{sym, _∙_}
-use Prim.Native.Nat.{_-_}
-use lib.ListN.{length}
+-- `Replay::lowest_picked` meets its contract: no thread that the loop has passed is picked, and `row` is where the thread begins that it has come to. Assumes nothing.
+use mathlib.Core.Path.{_≡_, sym, _∙_}
+use Prim.Native.Nat.{_*_, _^_, _-_, _≤_}
+use native.Mathlib.Omega.{arith}
+use mir.Syntax.{w32}
+use mir.Val.{Fits}
+use lib.ListN.{length, getD}
 use borrow.Author.Needs.{needs}
-use Rattle.tables.specs.Rows.{rows}
-use Rattle.replay.specs.Writer.{apartFrom, picked}
+use Rattle.tables.specs.Limits.{mostThreads}
+use Rattle.tables.specs.Rows.{firstRow}
+use Rattle.tables.proofs.Rows.{first-none, first-next}
+use Rattle.replay.specs.Writer.{picked, goesFirst}
+use Rattle.replay.proofs.Picking.{picked-is}
 use Rattle.replay.proofs.Scans.{Scanned, scan-none, scan-more, scan-found, scan-end}
 use Rattle.replay.proofs.state.Replay.lowest_picked.Statement.{statement}
 use Rattle.replay.proofs.state.Replay.lowest_picked.Tie as tie
 
 abbrev Inv-loop : tie.InvT-loop
-Inv-loop self commands lengths relation c d t₀ t = Scanned (picked (apartFrom relation (rows commands) c d) lengths self) (length lengths) t
+Inv-loop lengths early self row₀ t₀ row t =
+    Scanned (picked (goesFirst early) lengths self) (length lengths) t × (row ≡ firstRow lengths t) × (row ≤ 2 ^ 32 * t)
 
 abbrev μ-loop : tie.MeasureT-loop
-μ-loop self commands lengths relation c d t₀ t = length lengths - t
+μ-loop lengths early self row₀ t₀ row t = length lengths - t
 
 loop-holds : tie.Need-loop-holds Inv-loop μ-loop
-loop-holds c = scan-none _ _
+loop-holds c = (scan-none _ _, sym (first-none _), omega arith)
+
+mul-c : tie.Need-mul-c Inv-loop μ-loop
+mul-c c = search needs
+
+element-copy-out-c : tie.Need-element-copy-out-c Inv-loop μ-loop
+unfolding mostThreads
+element-copy-out-c c = search needs
+
+cast-c : tie.Need-cast-c Inv-loop μ-loop
+cast-c c = search needs
+
+add-c : tie.Need-add-c Inv-loop μ-loop
+unfolding mostThreads
+add-c c =
+    let l = c .before .before .loop in
+    let s = c .before .before .before .before .before .args .t1 in
+    let f : Fits w32 (getD (s .next) (l .t) 0) = search needs in
+    omega (arith, f .fits, l .inv .2, c .before .loop-test .taken)
+
+allows-requires : tie.Need-allows-requires Inv-loop μ-loop
+allows-requires c κs = search needs
+
+goes-first-requires : tie.Need-goes-first-requires Inv-loop μ-loop
+goes-first-requires c κs = search needs
 
 returns : tie.Need-returns Inv-loop μ-loop
-returns c = scan-found _ (c .before .before .before .loop .inv) (sym (c .before .picks .ensures) ∙ c .if1 .taken)
+returns c =
+    let l = c .before .before .before .before .before .loop in
+    let early = c .before .before .before .before .before .before .before .before .args .early .now in
+    scan-found _ (l .inv .0) (sym (picked-is early _ _ _ (c .before .before .allows .ensures) (l .inv .1) (c .before .goes-first .ensures)) ∙ c .if1 .taken)
+
+mul-row : tie.Need-mul-row Inv-loop μ-loop
+mul-row c = search needs
+
+shared-slice-read-row : tie.Need-shared-slice-read-row Inv-loop μ-loop
+shared-slice-read-row c = search needs
+
+cast-row : tie.Need-cast-row Inv-loop μ-loop
+cast-row c = omega (arith, c .shared-slice-known3 .given (c .before .before .before .before .before .before .loop .t))
+
+add-row : tie.Need-add-row Inv-loop μ-loop
+unfolding mostThreads
+add-row c = omega (arith, c .shared-slice-known3 .given (c .before .before .before .before .before .before .loop .t))
+
+add-t : tie.Need-add-t Inv-loop μ-loop
+add-t c = search needs
+
+loop-less : tie.Need-loop-less Inv-loop μ-loop
+loop-less c = search needs
 
 loop-again : tie.Need-loop-again Inv-loop μ-loop
 loop-again c =
-    let at = c .before .before in
-    scan-more _ (at .before .loop .inv) (at .loop-test .taken) (sym (c .before .picks .ensures) ∙ c .if1 .left)
+    let l = c .before .before .before .before .before .before .loop in
+    let a = c .before .before .before .before .before .before .before .before .before .args in (
+      scan-more _ (l .inv .0) (c .before .before .before .before .before .loop-test .taken)
+          (sym (picked-is (a .early .now) _ _ _ (c .before .before .before .allows .ensures) (l .inv .1) (c .before .before .goes-first .ensures)) ∙ c .before .if1 .left),
+      omega (arith, first-next (a .lengths .now) (l .t), l .inv .1),
+      omega (arith, l .inv .2, c .shared-slice-known3 .given (l .t)),
+    )
 
 returns-2 : tie.Need-returns-2 Inv-loop μ-loop
-returns-2 c = scan-end _ (c .before .loop .inv) (c .loop-test .left)
+returns-2 c = scan-end _ (c .before .loop .inv .0) (c .loop-test .left)
 
 pub lowest-picked-spec : {M : Type 1} → statement M
 lowest-picked-spec =
     tie.close
-    (tie.spec Inv-loop μ-loop loop-holds (λ c κs. search needs) returns (λ c. search needs) (λ c. search needs) loop-again returns-2)
+    (tie.spec
+    Inv-loop
+    μ-loop
+    loop-holds
+    mul-c
+    element-copy-out-c
+    cast-c
+    add-c
+    allows-requires
+    goes-first-requires
+    returns
+    mul-row
+    shared-slice-read-row
+    cast-row
+    add-row
+    add-t
+    loop-less
+    loop-again
+    returns-2)

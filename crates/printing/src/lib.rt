@@ -1,20 +1,19 @@
-// Bytes and numbers into a room, from a place on. Each answers the place after what it put.
-ghost use Prim.Native.Nat.{_+_, _≤_, _<_};
+// Bytes and numbers into a lent room, from a place on. Each answers the place after what it put. What has no room is left out, and the place then stays at the room's end.
 ghost use mathlib.Core.List.{[], _∷_};
-ghost use lib.ListN.{length};
-ghost use Rattle.desk.specs.Figures.{figures};
-ghost use Rattle.desk.specs.Putting.{PutsBytes};
+ghost use Rattle.printing.specs.Figures.{figures};
+ghost use Rattle.printing.specs.Putting.{PutsBytes};
 
-fn put_byte(room: &mut [u8], at: usize, byte: u8) -> usize
-    requires { ⌜ at < length (now room) ⌝ }
+pub fn put_byte(room: &mut [u8], at: usize, byte: u8) -> usize
     ensures { λ r. ⌜ PutsBytes (now (room .entry)) (now (room .exit)) at (byte ∷ []) r ⌝ }
 {
+    if room.len() <= at {
+        return at;
+    }
     room[at] = byte;
     at + 1
 }
 
-pub(crate) fn put(room: &mut [u8], at: usize, bytes: &[u8]) -> usize
-    requires { ⌜ at + length (now bytes) ≤ length (now room) ⌝ }
+pub fn put(room: &mut [u8], at: usize, bytes: &[u8]) -> usize
     ensures { λ r. ⌜ PutsBytes (now (room .entry)) (now (room .exit)) at (now (bytes .entry)) r ⌝ }
 {
     let mut next = at;
@@ -27,8 +26,7 @@ pub(crate) fn put(room: &mut [u8], at: usize, bytes: &[u8]) -> usize
 }
 
 // A number in decimal: what stands before its last figure, and then that.
-pub(crate) fn put_number(room: &mut [u8], at: usize, n: usize) -> usize
-    requires { ⌜ at + length (figures n) ≤ length (now room) ⌝ }
+pub fn put_number(room: &mut [u8], at: usize, n: usize) -> usize
     ensures { λ r. ⌜ PutsBytes (now (room .entry)) (now (room .exit)) at (figures n) r ⌝ }
 {
     if n < 10 {

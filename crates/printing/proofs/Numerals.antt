@@ -12,7 +12,7 @@ use borrow.Author.Tests.{lt-ltb, le-ltb, le-leb, lt-leb, ne-eqb}
 use Rattle.spelling.specs.Bytes.{classOf, is, digit, run}
 use Rattle.spelling.specs.Numbers.{mostNumber, decimal, Means}
 use Rattle.spelling.proofs.Laws.{Each}
-use Rattle.desk.specs.Figures.{figure, figuresTo, figures}
+use Rattle.printing.specs.Figures.{figure, figuresTo, figures}
 
 -- ---- one figure, or a last one after the others
 
@@ -46,9 +46,6 @@ figures-step n h =
     to-same n (suc n) n (omega arith) (omega arith)
     ∙ to-step n n h
     ∙ ap (λ (w : List ℕ). w ++ (figure (n % 10) ∷ [])) (to-same n (n / 10) (n / 10) (omega arith) (omega arith))
-
-pub figures-tenth : (n : ℕ) → 10 ≤ n → length (figures n) ≡ length (figures (n / 10)) + 1
-figures-tenth n h = ap length (figures-step n h) ∙ length-append (figures (n / 10)) (figure (n % 10) ∷ [])
 
 -- ---- what holds of one figure, and of a last one where it holds before it, holds of all
 
@@ -127,7 +124,7 @@ figures-leading n =
 
 -- ---- they end where the digits end
 
-pub apart : (u v : List ℕ) (b c : ℕ) (x y : List ℕ) → Each Digit u → Each Digit v → ¬ Digit b → ¬ Digit c → u ++ b ∷ x ≡ v ++ c ∷ y
+apart : (u v : List ℕ) (b c : ℕ) (x y : List ℕ) → Each Digit u → Each Digit v → ¬ Digit b → ¬ Digit c → u ++ b ∷ x ≡ v ++ c ∷ y
     → (u ≡ v) × (b ∷ x ≡ c ∷ y)
 apart [] [] b c x y f g p q e = (refl, e)
 apart [] (d ∷ v) b c x y f g p q e = let h : b ≡ d = cc in absurd (p (rw h (g .0)))
@@ -143,7 +140,7 @@ figures-apart {m} {n} {b} {c} {x} {y} p q e =
     let r = apart (figures m) (figures n) b c x y (figures-digits m) (figures-digits n) p q e in
     (figures-one (r .0), r .1)
 
--- ---- the notation reads them again: a report's number is spelt like a program's
+-- ---- a reader of numbers reads them again: what is printed is spelt as what is read
 
 digit-class : (b : ℕ) → Digit b → is digit b ≡ true
 unfolding classOf
