@@ -10,7 +10,8 @@ use Rattle.tables.specs.declared.verdict.Told.{Told}
 use Rattle.sheet.specs.declared.Pair.{Pair}
 use Rattle.desk.specs.declared.conclusion.Conclusion.{Conclusion}
 use Rattle.printing.specs.Figures.{figures}
-use Rattle.desk.specs.Report.{space, newline, verdictWord, placeWord, totalWord, twoNumbers, verdictLine, totalLine, pairLines, keptPairs, report}
+use Rattle.sheet.specs.Sheet.{keptPairs}
+use Rattle.desk.specs.Report.{space, newline, verdictWord, placeWord, totalWord, twoNumbers, verdictLine, totalLine, pairLines, report}
 
 -- ---- lengths
 

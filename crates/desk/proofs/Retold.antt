@@ -1,14 +1,14 @@
 -- A report tells its conclusion again, whatever stands after it. Assumes nothing.
 use mathlib.Core.Path.{_≡_, refl, sym, ap, ap₂, _∙_}
 use mathlib.Core.List.{List, [], _∷_, _++_, append-assoc, append-cancel-left}
-use Prim.Native.Nat.{ℕ, zero, suc, min}
-use native.Mathlib.Numerals.{unary-clauses}
+use Prim.Native.Nat.{ℕ, zero, suc}
 use native.Mathlib.Omega.{arith}
 use lib.ListN.{length, take, length-take}
 use Rattle.tables.specs.Verdicts.{tell}
 use Rattle.tables.specs.declared.verdict.Told.{Told}
 use Rattle.sheet.specs.declared.Pair.{Pair}
 use Rattle.sheet.specs.Sheet.{mostKept, pair, firsts, sheetOf}
+use Rattle.sheet.proofs.Sheets.{kept-are}
 use Rattle.printing.specs.Figures.{figures}
 use Rattle.desk.specs.Report.{space, newline, verdictWord, placeWord, totalWord, twoNumbers, verdictLine, totalLine, pairLines, report}
 use Rattle.desk.specs.Promise.{ToldAgain}
@@ -75,13 +75,6 @@ pairs-told (p ∷ ps) (q ∷ qs) x y h e =
 
 -- ---- the sheet: the pairs kept are the first sixteen of the list
 
-kept-firsts : (n : ℕ) (ps : List Pair) → take (min (length ps) n) (firsts n ps) ≡ take n ps
-unfolding firsts
-kept-firsts zero [] = refl
-kept-firsts zero (p ∷ ps) = simp unary-clauses
-kept-firsts (suc n) [] = simp unary-clauses
-kept-firsts (suc n) (p ∷ ps) = simp unary-clauses (ap (λ (l : List Pair). p ∷ l) (kept-firsts n ps))
-
 firsts-take : (n : ℕ) (ps : List Pair) → firsts n (take n ps) ≡ firsts n ps
 unfolding firsts
 firsts-take zero ps = refl
@@ -99,7 +92,7 @@ sheet-told ps qs h e =
 report-parts : (t : Told) (ps : List Pair) (x : List ℕ)
     → report (record { told = t; sheet = sheetOf ps }) ++ x ≡ verdictLine t ++ (totalLine (length ps) ++ (pairLines (take mostKept ps) ++ x))
 unfolding report sheetOf
-report-parts t ps x = rw (kept-firsts mostKept ps) (simp append-assoc)
+report-parts t ps x = rw (kept-are ps) (simp append-assoc)
 
 pub told-again : ToldAgain
 told-again t u ps qs x y e =

@@ -1,11 +1,9 @@
 -- The report: `verdict V place P Q`, `total T`, then one line a kept pair, each line closed by a newline.
 use mathlib.Core.List.{List, [], _∷_, _++_}
-use Prim.Native.Nat.{ℕ, min}
-use lib.ListN.{take}
+use Prim.Native.Nat.{ℕ}
 use Rattle.tables.specs.declared.verdict.Told.{Told}
 use Rattle.sheet.specs.declared.Pair.{Pair}
-use Rattle.sheet.specs.declared.Sheet.{Sheet}
-use Rattle.sheet.specs.Sheet.{mostKept}
+use Rattle.sheet.specs.Sheet.{keptPairs}
 use Rattle.desk.specs.declared.conclusion.Conclusion.{Conclusion}
 use Rattle.printing.specs.Figures.{figures}
 
@@ -42,10 +40,6 @@ totalLine n = totalWord ++ figures n ++ newline ∷ []
 unfoldable pub pairLines : List Pair → List ℕ
 pairLines [] = []
 pairLines (p ∷ ps) = twoNumbers (p .first) (p .second) ++ pairLines ps
-
--- as many pairs as the smaller of the total and sixteen
-abbrev pub keptPairs : Sheet → List Pair
-keptPairs s = take (min (s .total) mostKept) (s .pairs)
 
 unfoldable pub report : Conclusion → List ℕ
 report c = verdictLine (c .told) ++ totalLine (c .sheet .total) ++ pairLines (keptPairs (c .sheet))

@@ -1,12 +1,12 @@
 // The lines of the report.
-ghost use mathlib.Core.Path.{_≡_};
-ghost use Prim.Native.Nat.{min};
 ghost use Rattle.printing.specs.Putting.{PutsBytes};
-ghost use Rattle.desk.specs.Report.{twoNumbers, verdictLine, totalLine, pairLines, keptPairs, report};
+ghost use Rattle.desk.specs.Report.{twoNumbers, verdictLine, totalLine, pairLines, report};
+ghost use Rattle.sheet.specs.Sheet.{keptPairs};
 use crate::conclusion::Conclusion;
 use printing::put;
 use printing::put_number;
 use sheet::Sheet;
+use sheet::kept;
 use tables::Told;
 
 pub struct Report;
@@ -43,17 +43,11 @@ fn put_total(room: &mut [u8], at: usize, total: usize) -> usize
     put(room, after_number, b"\n")
 }
 
-fn least(a: usize, b: usize) -> usize
-    ensures { λ r. ⌜ r ≡ min a b ⌝ }
-{
-    if a < b { a } else { b }
-}
-
 // One line a kept pair.
 fn put_pairs(room: &mut [u8], at: usize, sheet: Sheet) -> usize
     ensures { λ r. ⌜ PutsBytes (now (room .entry)) (now (room .exit)) at (pairLines (keptPairs sheet)) r ⌝ }
 {
-    let lines = least(sheet.total, Sheet::KEPT);
+    let lines = kept(sheet.total);
     let mut next = at;
     let mut i = 0;
     while i < lines {

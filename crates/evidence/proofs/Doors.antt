@@ -1,35 +1,102 @@
 -- The contract of `review_evidence` from what its parts found. Assumes nothing.
 use mathlib.Core.Path.{_≡_, refl, sym, ap, _∙_, subst}
-use mathlib.Core.Logic.{_≢_}
-use mathlib.Core.List.{List, []}
-use Prim.Native.Nat.{ℕ, _*_, _≤_, _<_}
+use mathlib.Core.Logic.{by-cases, _≢_}
+use mathlib.Core.Bool.{Bool}
+use mathlib.Core.List.{List, [], _++_}
+use Prim.Native.Nat.{ℕ, _*_, _+_, _≤_, _<_}
+use native.Mathlib.Decide.{ℕ-discrete}
 use native.Mathlib.Omega.{arith}
-use lib.ListN.{length}
-use borrow.Author.Tests.{le-ltb, lt-ltb}
+use lib.ListN.{length, getD, take, drop}
+use lib.Seq.{take-at}
+use borrow.Author.Tests.{eq-eqb, ne-eqb, le-ltb, lt-ltb}
 use Rattle.tables.specs.Limits.{mostRows}
 use Rattle.tables.specs.Rows.{rows}
 use Rattle.tables.specs.Verdicts.{tell, numbered}
 use Rattle.tables.specs.declared.verdict.Told.{Told}
 use Rattle.tables.specs.declared.verdict.Verdict.{Verdict}
 use Rattle.tables.specs.declared.verdict.Verdict.the-variants.{ShortRoom}
-use Rattle.sheet.specs.Sheet.{sheetOf}
+use Rattle.relation.specs.Table.{related}
+use Rattle.sheet.specs.Sheet.{pair, sheetOf, keptPairs, firstKept}
 use Rattle.findings.specs.declared.finding.Finding.{Finding}
 use Rattle.replay.specs.Writer.{FilledBy}
 use Rattle.replay.proofs.Refusals.{or-first, or-second}
 use Rattle.rooms.specs.Refusals.{refused}
 use Rattle.rooms.proofs.Refusals.{admitted}
+use Rattle.review.specs.Judge.{reaches}
 use Rattle.review.specs.Agreement.{number, Reviewed}
-use Rattle.evidence.specs.declared.door.Evidence.{Evidence}
-use Rattle.evidence.specs.Evidence.{evidenceOf}
-use Rattle.evidence.specs.Doors.{shortEvidence, refusedToo, Untouched, Evidenced}
-use Rattle.evidence.proofs.Shown.{ten-disputes, eleven-opposes}
+use Rattle.evidence.specs.Evidence.{Disputes, Orders, against, bothWays, evidenceOf}
+use Rattle.evidence.specs.Doors.{evidenceRoom, shortEvidence, refusedShowing, scheduleAt, Opposes, HoldsEvidence, Evidenced}
+use Rattle.evidence.proofs.Shown.{ten-disputes, eleven-orders, eleven-long, evidence-is}
+use Rattle.evidence.proofs.Slices.{both-long, x-at, y-at, nothing-of}
+
+-- what stands first in a room that is filled
+front-is : {τ room room′ : List ℕ} {n : ℕ} → FilledBy τ room room′ n → take n room′ ≡ τ
+front-is {τ} {room} {room′} {n} F = ap (take n) (F .room) ∙ take-at τ (drop n room) n (sym (F .long))
+
+-- nothing fills
+none-is : {room room′ : List ℕ} {n : ℕ} → FilledBy [] room room′ n → (n ≡ 0) × (room′ ≡ room)
+none-is {room} {room′} {n} F = (F .long, F .room ∙ ap (λ (k : ℕ). drop k room) (F .long))
+
+-- ---- what the room holds
+
+module _ {commands lengths σ relation generations : List ℕ} {f : Finding} {relation′ generations′ : List ℕ} (R : Reviewed commands lengths σ relation generations f relation′ generations′)
+    (pass : refused commands lengths (length relation) (length generations) .number ≡ 0) {room room′ : List ℕ} {n : ℕ}
+    (F : FilledBy (evidenceOf commands lengths (reaches commands lengths σ) (number f) (f .sheet)) room room′ n) where
+  abbrev ρ : ℕ → ℕ → Bool
+  ρ = reaches commands lengths σ
+
+  ten-is : number f ≡ 10 → evidenceOf commands lengths ρ (number f) (f .sheet) ≡ against commands lengths ρ (firstKept (f .sheet))
+  unfolding evidenceOf
+  ten-is e = rw (eq-eqb (number f) 10 e)
+
+  eleven-is : number f ≡ 11 → evidenceOf commands lengths ρ (number f) (f .sheet) ≡ bothWays commands lengths ρ (keptPairs (f .sheet))
+  unfolding evidenceOf
+  eleven-is e = rw (ne-eqb (number f) 10 (λ z. omega arith), eq-eqb (number f) 11 e)
+
+  opposes : number f ≡ 11 → (k : ℕ) → k < length (keptPairs (f .sheet)) → Opposes commands lengths room′ k (getD (keptPairs (f .sheet)) k (pair 0 0))
+  opposes e k l =
+      let ps = keptPairs (f .sheet) in
+      let is : room′ ≡ bothWays commands lengths ρ ps ++ drop n room = F .room ∙ ap (λ (τ : List ℕ). τ ++ drop n room) (eleven-is e) in
+      let p = getD ps k (pair 0 0) in
+      let (a, b) = eleven-orders R pass e k l in
+      record {
+        x-first =
+            subst (Orders commands lengths (p .first) (p .second))
+            (sym (x-at commands lengths ρ (rows commands) (drop n room) ps (eleven-long R pass e) k l) ∙ ap (scheduleAt (rows commands) (k * 2)) (sym is)) a;
+        y-first =
+            subst (Orders commands lengths (p .second) (p .first))
+            (sym (y-at commands lengths ρ (rows commands) (drop n room) ps (eleven-long R pass e) k l) ∙ ap (scheduleAt (rows commands) (k * 2 + 1)) (sym is)) b;
+      }
+
+  holds : HoldsEvidence commands lengths σ room (record { finding = f; entries = n }) room′
+  holds =
+      record {
+        written = F;
+        disputes = λ e. subst (Disputes commands lengths σ) (sym (front-is F ∙ ten-is e)) (ten-disputes R pass e);
+        opposes = opposes;
+        count = λ e. F .long ∙ ap length (eleven-is e) ∙ both-long commands lengths ρ (rows commands) (keptPairs (f .sheet)) (eleven-long R pass e);
+        nothing = λ a b. none-is (subst (λ (τ : List ℕ). FilledBy τ room room′ n) (nothing-of commands lengths ρ (number f) (f .sheet) a b) F);
+      }
+
+-- ---- refusals
+
+-- tables and rooms that are not refused here are not refused without evidence
+pub showing-passes : (commands lengths : List ℕ) (relation generations room : ℕ) → refusedShowing commands lengths relation generations room .number ≡ 0
+    → refused commands lengths relation generations .number ≡ 0
+unfolding refusedShowing
+showing-passes commands lengths relation generations room z =
+    let a = refused commands lengths relation generations in
+    by-cases (ℕ-discrete (a .number) 0) (λ (e : a .number ≡ 0). e)
+    (λ (n : a .number ≢ 0). absurd (n (ap (λ (t : Told). t .number) (or-first a (shortEvidence (rows commands) room) n) ∙ z)))
+
+-- ---- the door
 
 module _ (commands lengths σ relation generations room : List ℕ) where
   abbrev refusal : Told
   refusal = refused commands lengths (length relation) (length generations)
 
   abbrev all : Told
-  all = refusedToo commands lengths (length relation) (length generations) (length room)
+  all = refusedShowing commands lengths (length relation) (length generations) (length room)
 
   -- refused, with nothing done
   untouched : (v : Verdict) → numbered v ≡ all → all .number ≢ 0
@@ -38,45 +105,40 @@ module _ (commands lengths σ relation generations room : List ℕ) where
       record {
         refused = λ _. (e, record { sheet = refl; entries = refl; relation-kept = refl; generations-kept = refl; room-kept = refl });
         reviewed = λ z. absurd (n z);
-        written = λ z. absurd (n z);
-        disputes = λ z. absurd (n z);
-        opposes = λ z. absurd (n z);
+        holds = λ z. absurd (n z);
       }
 
   pub evidenced-refused : (v : Verdict) → numbered v ≡ refusal → numbered v .number ≢ 0
       → Evidenced commands lengths σ relation generations room (record { finding = record { verdict = v; sheet = sheetOf [] }; entries = 0 }) relation generations room
-  unfolding refusedToo
+  unfolding refusedShowing
   evidenced-refused v e n =
       let m : refusal .number ≢ 0 = λ z. n (ap (λ (t : Told). t .number) e ∙ z) in
       let q : refusal ≡ all = or-first refusal (shortEvidence (rows commands) (length room)) m in
       untouched v (e ∙ q) (λ z. m (ap (λ (t : Told). t .number) q ∙ z))
 
   module _ (pass : refusal .number ≡ 0) where
-    few : rows commands ≤ 512
-    unfolding mostRows
-    few = admitted commands lengths (length relation) (length generations) pass .keeps .few-rows
+    pub few-rows : rows commands ≤ mostRows
+    few-rows = admitted commands lengths (length relation) (length generations) pass .keeps .few-rows
 
-    pub evidenced-short : length room < 32 * rows commands
+    pub evidenced-short : length room < evidenceRoom (rows commands)
         → Evidenced commands lengths σ relation generations room (record { finding = record { verdict = ShortRoom 4; sheet = sheetOf [] }; entries = 0 }) relation generations room
-    unfolding refusedToo
+    unfolding refusedShowing
     evidenced-short l =
-        let q : tell 4 4 0 ≡ all = sym (rw (lt-ltb (length room) (32 * rows commands) l)) ∙ or-second refusal (shortEvidence (rows commands) (length room)) pass in
+        let q : tell 4 4 0 ≡ all = sym (rw (lt-ltb (length room) (evidenceRoom (rows commands)) l)) ∙ or-second refusal (shortEvidence (rows commands) (length room)) pass in
         untouched (ShortRoom 4) q (λ z. absurd (omega (arith, ap (λ (t : Told). t .number) q)))
 
     module _ {r : Finding} {relation′ generations′ room′ : List ℕ} {n : ℕ} (R : Reviewed commands lengths σ relation generations r relation′ generations′) where
-      pub evidenced : 32 * rows commands ≤ length room → {t : Told} → t ≡ numbered (r .verdict) → FilledBy (evidenceOf commands lengths relation′ (t .number) (r .sheet)) room room′ n
+      pub evidenced : evidenceRoom (rows commands) ≤ length room → {t : Told} → t ≡ numbered (r .verdict)
+          → FilledBy (evidenceOf commands lengths (related relation′ (rows commands)) (t .number) (r .sheet)) room room′ n
           → Evidenced commands lengths σ relation generations room (record { finding = r; entries = n }) relation′ generations′ room′
-      unfolding refusedToo
+      unfolding refusedShowing
       evidenced l {t} e F =
           let q : tell 0 0 0 ≡ all =
-          sym (rw (le-ltb (length room) (32 * rows commands) l)) ∙ or-second refusal (shortEvidence (rows commands) (length room)) pass in
+          sym (rw (le-ltb (length room) (evidenceRoom (rows commands)) l)) ∙ or-second refusal (shortEvidence (rows commands) (length room)) pass in
+          let is : evidenceOf commands lengths (related relation′ (rows commands)) (t .number) (r .sheet) ≡ evidenceOf commands lengths (reaches commands lengths σ) (number r) (r .sheet)
+          = ap (λ (t : Told). evidenceOf commands lengths (related relation′ (rows commands)) (t .number) (r .sheet)) e ∙ evidence-is R pass in
           record {
             refused = λ m. absurd (m (ap (λ (t : Told). t .number) (sym q)));
             reviewed = λ _. R;
-            written = λ _. subst (λ (k : ℕ). FilledBy (evidenceOf commands lengths relation′ k (r .sheet)) room room′ n) (ap (λ (t : Told). t .number) e) F;
-            disputes = λ _ ten. ten-disputes R pass ten;
-            opposes = λ _ eleven. eleven-opposes R pass eleven;
+            holds = λ _. holds R pass (subst (λ (τ : List ℕ). FilledBy τ room room′ n) is F);
           }
-
-  pub few-rows : refusal .number ≡ 0 → rows commands ≤ 512
-  few-rows pass = few pass

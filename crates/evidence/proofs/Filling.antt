@@ -1,56 +1,62 @@
 -- The room after the schedules of a verdict. Assumes nothing.
-use mathlib.Core.Path.{_≡_, refl, sym, ap, _∙_, subst}
-use mathlib.Core.Logic.{inl, inr, _≢_}
-use mathlib.Core.List.{List, []}
-use Prim.Native.Nat.{ℕ, _*_, _≤_, _<_, min}
+use mathlib.Core.Path.{_≡_, refl, subst}
+use mathlib.Core.Logic.{_≢_}
+use mathlib.Core.Bool.{Bool}
+use mathlib.Core.List.{List}
+use Prim.Native.Nat.{ℕ, _≤_, _<_, min}
 use native.Mathlib.Nat.{mul-le-mul-right}
 use native.Mathlib.Omega.{arith}
-use lib.ListN.{length, getD, take}
+use lib.ListN.{length, take}
+use lib.Seq.{length-take-le, getD-take}
 use borrow.Author.Tests.{eq-eqb, ne-eqb}
 use Rattle.tables.specs.Limits.{mostRows}
 use Rattle.tables.specs.Rows.{rows}
 use Rattle.sheet.specs.declared.Sheet.{Sheet}
-use Rattle.sheet.specs.Sheet.{pair, mostKept}
-use Rattle.replay.specs.Writer.{FilledBy, apartSchedule}
-use Rattle.evidence.specs.Evidence.{bothWays, against, kept, firstOf, evidenceOf, PutsAt, FitsAt, FitsAll}
-use Rattle.evidence.specs.Doors.{Showable}
+use Rattle.sheet.specs.Sheet.{pair, mostKept, firstKept}
+use Rattle.replay.specs.Writer.{FilledBy}
+use Rattle.evidence.specs.Evidence.{bothWays, against, evidenceOf}
+use Rattle.evidence.specs.Parts.{AreCommands, PutsAt, FitsAt, FitsAll, Showable}
+use Rattle.evidence.proofs.Putting.{few-commands}
 
 -- what is put from the front fills
 puts-fills : {σ room room′ : List ℕ} {r : ℕ} → PutsAt σ room room′ 0 r → FilledBy σ room room′ r
 puts-fills Q = record { long = omega (arith, Q .ends); room = Q .room }
 
 module _ {commands lengths : List ℕ} {n : ℕ} {s : Sheet} {room : List ℕ} (S : Showable commands lengths n s room) where
-  pub show-low : n ≡ 10 → (getD (s .pairs) 0 (pair 0 0) .first < 512) × (getD (s .pairs) 0 (pair 0 0) .second < 512)
-  unfolding mostRows mostKept
-  show-low e =
-      let (a, b) = S .low (inl e) 0 (omega (arith, S .some e)) in
-      (omega (arith, S .keeps .few-rows), omega (arith, S .keeps .few-rows))
+  pub show-low : n ≡ 10 → (firstKept s .first < mostRows) × (firstKept s .second < mostRows)
+  show-low e = few-commands (S .keeps) (S .reuse e)
 
   pub show-one : FitsAt commands lengths room 0
+  unfolding mostKept
   show-one = record { keeps = S .keeps; fits = omega (arith, S .fits) }
 
   pub show-all : n ≡ 11 → {k : ℕ} → k ≡ min (s .total) mostKept → FitsAll commands lengths (s .pairs) k room
   unfolding mostKept
   show-all e {k} q =
+      let few : k ≤ length (s .pairs) = omega (arith, S .long) in
       record {
         keeps = S .keeps;
-        few = omega (arith, S .long);
-        low = λ i l. S .low (inr e) i (omega arith);
+        few = few;
+        low =
+            λ i l.
+            subst (AreCommands commands) (getD-take (min (s .total) mostKept) (s .pairs) i (pair 0 0) (omega arith))
+            (S .races e i (omega (arith, length-take-le (min (s .total) mostKept) (s .pairs) (omega (arith, S .long)))));
         fits = let l : k ≤ 16 = omega arith in omega (arith, S .fits, mul-le-mul-right {m = k} {n = 16} (rows commands) l);
       }
 
-module _ (commands lengths relation : List ℕ) (n : ℕ) (s : Sheet) {room room′ : List ℕ} {r : ℕ} where
-  pub show-ten : n ≡ 10 → PutsAt (against commands lengths relation (firstOf s)) room room′ 0 r → FilledBy (evidenceOf commands lengths relation n s) room room′ r
+module _ (commands lengths : List ℕ) (ρ : ℕ → ℕ → Bool) (n : ℕ) (s : Sheet) {room room′ : List ℕ} {r : ℕ} where
+  pub show-ten : n ≡ 10 → PutsAt (against commands lengths ρ (firstKept s)) room room′ 0 r → FilledBy (evidenceOf commands lengths ρ n s) room room′ r
   unfolding evidenceOf
   show-ten e Q = rw (eq-eqb n 10 e) (puts-fills Q)
 
-  pub show-eleven : n ≡ 11 → {k : ℕ} → k ≡ min (s .total) mostKept → PutsAt (bothWays commands lengths relation (take k (s .pairs))) room room′ 0 r
-      → FilledBy (evidenceOf commands lengths relation n s) room room′ r
+  pub show-eleven : n ≡ 11 → {k : ℕ} → k ≡ min (s .total) mostKept → PutsAt (bothWays commands lengths ρ (take k (s .pairs))) room room′ 0 r
+      → FilledBy (evidenceOf commands lengths ρ n s) room room′ r
   unfolding evidenceOf
   show-eleven e {k} q Q =
       rw (ne-eqb n 10 (λ z. omega arith), eq-eqb n 11 e)
-      (puts-fills (subst (λ (k : ℕ). PutsAt (bothWays commands lengths relation (take k (s .pairs))) room room′ 0 r) q Q))
+      (puts-fills (subst (λ (k : ℕ). PutsAt (bothWays commands lengths ρ (take k (s .pairs))) room room′ 0 r) q Q))
 
-pub show-none : (commands lengths relation : List ℕ) (n : ℕ) (s : Sheet) (room : List ℕ) → n ≢ 10 → n ≢ 11 → FilledBy (evidenceOf commands lengths relation n s) room room 0
+pub show-none : (commands lengths : List ℕ) (ρ : ℕ → ℕ → Bool) (n : ℕ) (s : Sheet) (room : List ℕ) → n ≢ 10 → n ≢ 11
+    → FilledBy (evidenceOf commands lengths ρ n s) room room 0
 unfolding evidenceOf
-show-none commands lengths relation n s room a b = rw (ne-eqb n 10 a, ne-eqb n 11 b) (record { long = refl; room = refl })
+show-none commands lengths ρ n s room a b = rw (ne-eqb n 10 a, ne-eqb n 11 b) (record { long = refl; room = refl })

@@ -1,5 +1,6 @@
 -- Schedules put into a room one after the other. Assumes nothing.
-use mathlib.Core.Path.{_≡_, refl, sym, ap, ap₂, _∙_, subst}
+use mathlib.Core.Path.{_≡_, refl, sym, ap, ap₂, _∙_}
+use mathlib.Core.Bool.{Bool}
 use mathlib.Core.List.{List, [], _∷_, _++_, append-nil, append-assoc}
 use Prim.Native.Nat.{ℕ, suc, _+_, _*_, _-_, _≤_, _<_}
 use native.Mathlib.Nat.{mul-le-mul-right, suc-mul}
@@ -21,7 +22,12 @@ use Rattle.replay.specs.declared.writer.Written.{Written}
 use Rattle.replay.specs.Writer.{unwritten, apartFrom, pickedFirst, apartSchedule}
 use Rattle.replay.specs.Doors.{Writes}
 use Rattle.replay.proofs.Places.{schedule-by-few}
-use Rattle.evidence.specs.Evidence.{bothWays, firstFirst, secondFirst, PutsAt, FitsAt, FitsAll}
+use Rattle.evidence.specs.Evidence.{bothWays, firstFirst, secondFirst}
+use Rattle.evidence.specs.Parts.{PutsAt, FitsAt, AreCommands, FitsAll}
+
+-- commands are few
+pub few-commands : {commands lengths : List ℕ} → Keeps commands lengths → {p : Pair} → AreCommands commands p → (p .first < mostRows) × (p .second < mostRows)
+few-commands K (a, b) = (omega (arith, K .few-rows), omega (arith, K .few-rows))
 
 -- ---- one schedule, from a place on
 
@@ -36,8 +42,8 @@ module _ (room : List ℕ) (at : ℕ) (l : at ≤ length room) where
       ∙ take-append-drop (length room - at) (drop at room)
 
 -- no schedule has more steps than there are rows
-pub apart-few : (commands lengths relation : List ℕ) (c d : ℕ) → length (apartSchedule commands lengths relation c d) ≤ rows commands
-apart-few commands lengths relation c d = schedule-by-few commands lengths (pickedFirst (apartFrom relation (rows commands) c d) lengths)
+pub apart-few : (commands lengths : List ℕ) (ρ : ℕ → ℕ → Bool) (c d : ℕ) → length (apartSchedule commands lengths ρ c d) ≤ rows commands
+apart-few commands lengths ρ c d = schedule-by-few commands lengths (pickedFirst (apartFrom ρ c d) lengths)
 
 module _ {σ commands lengths room : List ℕ} {at : ℕ} (short : length σ ≤ rows commands) (F : FitsAt commands lengths room at)
     {after : List ℕ} {w : Written} (W : Writes σ commands lengths (midOf at (length room - at) room) after w) where
@@ -88,32 +94,32 @@ front-more {before} {room} {front} {σ} {room′} {at} {r} R Q =
 
 -- ---- both ways of each pair: after k pairs
 
-pub record Racing (commands lengths relation : List ℕ) (pairs : List Pair) (n : ℕ) (before room : List ℕ) (at k : ℕ) : Type 0 where
+pub record Racing (commands lengths : List ℕ) (ρ : ℕ → ℕ → Bool) (pairs : List Pair) (n : ℕ) (before room : List ℕ) (at k : ℕ) : Type 0 where
   pub all : FitsAll commands lengths pairs n before
   pub front : List ℕ
   pub fronted : Fronted before room front at
   pub few : at ≤ k * rows commands * 2
   pub within : k ≤ n
-  pub rest-is : bothWays commands lengths relation (take n pairs) ≡ front ++ bothWays commands lengths relation (drop k (take n pairs))
+  pub rest-is : bothWays commands lengths ρ (take n pairs) ≡ front ++ bothWays commands lengths ρ (drop k (take n pairs))
 
-module _ (commands lengths relation : List ℕ) (pairs : List Pair) (n : ℕ) (before : List ℕ) where
-  pub racing-start : FitsAll commands lengths pairs n before → Racing commands lengths relation pairs n before before 0 0
+module _ (commands lengths : List ℕ) (ρ : ℕ → ℕ → Bool) (pairs : List Pair) (n : ℕ) (before : List ℕ) where
+  pub racing-start : FitsAll commands lengths pairs n before → Racing commands lengths ρ pairs n before before 0 0
   racing-start F = record { all = F; front = []; fronted = front-none before; few = omega arith; within = omega arith; rest-is = refl }
 
-  module _ {room : List ℕ} {at k : ℕ} (R : Racing commands lengths relation pairs n before room at k) where
+  module _ {room : List ℕ} {at k : ℕ} (R : Racing commands lengths ρ pairs n before room at k) where
     budget : k ≤ n → k * rows commands ≤ n * rows commands
     budget l = mul-le-mul-right {m = k} {n = n} (rows commands) l
 
     pub racing-long : length room ≡ length before
     racing-long = front-long (R .fronted) (omega (arith, R .few, R .all .fits, budget (R .within)))
 
-    pub racing-end : n ≤ k → PutsAt (bothWays commands lengths relation (take n pairs)) before room 0 at
+    pub racing-end : n ≤ k → PutsAt (bothWays commands lengths ρ (take n pairs)) before room 0 at
     unfolding bothWays
     racing-end l =
         let few = length-take-le n pairs (R .all .few) in
         let z : drop k (take n pairs) ≡ [] = ap (λ (i : ℕ). drop i (take n pairs)) (let e : k ≡ length (take n pairs) = omega (arith, R .within) in e) ∙ drop-length (take n pairs) in
-        let f : bothWays commands lengths relation (take n pairs) ≡ R .front =
-        R .rest-is ∙ ap (λ (ps : List Pair). R .front ++ bothWays commands lengths relation ps) z ∙ append-nil (R .front) in
+        let f : bothWays commands lengths ρ (take n pairs) ≡ R .front =
+        R .rest-is ∙ ap (λ (ps : List Pair). R .front ++ bothWays commands lengths ρ ps) z ∙ append-nil (R .front) in
         record { ends = omega (arith, ap length f, R .fronted .long); room = R .fronted .room-is ∙ ap (λ (r : List ℕ). r ++ drop at before) (sym f) }
 
     module _ (l : k < n) where
@@ -123,18 +129,17 @@ module _ (commands lengths relation : List ℕ) (pairs : List Pair) (n : ℕ) (b
       more : suc k * rows commands ≤ n * rows commands
       more = mul-le-mul-right {m = suc k} {n = n} (rows commands) l
 
-      pub racing-low : (p .first < 512) × (p .second < 512)
-      unfolding mostRows
-      racing-low = let (a, b) = R .all .low k l in (omega (arith, R .all .keeps .few-rows), omega (arith, R .all .keeps .few-rows))
+      pub racing-low : (p .first < mostRows) × (p .second < mostRows)
+      racing-low = few-commands (R .all .keeps) (R .all .low k l)
 
       pub racing-fits : FitsAt commands lengths room at
       racing-fits = record { keeps = R .all .keeps; fits = omega (arith, racing-long, R .few, R .all .fits, more, suc-mul k (rows commands)) }
 
-      module _ {room₁ : List ℕ} {at₁ : ℕ} (A : PutsAt (firstFirst commands lengths relation p) room room₁ at at₁) where
+      module _ {room₁ : List ℕ} {at₁ : ℕ} (A : PutsAt (firstFirst commands lengths ρ p) room room₁ at at₁) where
         half-few : at₁ ≤ at + rows commands
-        half-few = omega (arith, A .ends, apart-few commands lengths relation (p .second) (p .first))
+        half-few = omega (arith, A .ends, apart-few commands lengths ρ (p .second) (p .first))
 
-        half : Fronted before room₁ (R .front ++ firstFirst commands lengths relation p) at₁
+        half : Fronted before room₁ (R .front ++ firstFirst commands lengths ρ p) at₁
         half = front-more (R .fronted) A
 
         pub half-long : length room₁ ≡ length before
@@ -143,23 +148,23 @@ module _ (commands lengths relation : List ℕ) (pairs : List Pair) (n : ℕ) (b
         pub half-fits : FitsAt commands lengths room₁ at₁
         half-fits = record { keeps = R .all .keeps; fits = omega (arith, half-long, half-few, R .few, R .all .fits, more, suc-mul k (rows commands)) }
 
-        module _ {room₂ : List ℕ} {at₂ : ℕ} (B : PutsAt (secondFirst commands lengths relation p) room₁ room₂ at₁ at₂) where
-          pub racing-more : Racing commands lengths relation pairs n before room₂ at₂ (k + 1)
+        module _ {room₂ : List ℕ} {at₂ : ℕ} (B : PutsAt (secondFirst commands lengths ρ p) room₁ room₂ at₁ at₂) where
+          pub racing-more : Racing commands lengths ρ pairs n before room₂ at₂ (k + 1)
           unfolding bothWays
           racing-more =
-              let a = firstFirst commands lengths relation p in
-              let b = secondFirst commands lengths relation p in
+              let a = firstFirst commands lengths ρ p in
+              let b = secondFirst commands lengths ρ p in
               let few = length-take-le n pairs (R .all .few) in
               let s : drop k (take n pairs) ≡ p ∷ drop (k + 1) (take n pairs) =
               rw add-one (drop-cons (take n pairs) k (pair 0 0) (omega arith) ∙ ap (λ (q : Pair). q ∷ drop (suc k) (take n pairs)) (getD-take n pairs k (pair 0 0) l)) in
-              let rest = bothWays commands lengths relation (drop (k + 1) (take n pairs)) in
+              let rest = bothWays commands lengths ρ (drop (k + 1) (take n pairs)) in
               record {
                 all = R .all;
                 front = (R .front ++ a) ++ b;
                 fronted = front-more half B;
-                few = omega (arith, half-few, R .few, B .ends, apart-few commands lengths relation (p .first) (p .second), suc-mul k (rows commands), ap (λ (i : ℕ). i * rows commands) (add-one k));
+                few = omega (arith, half-few, R .few, B .ends, apart-few commands lengths ρ (p .first) (p .second), suc-mul k (rows commands), ap (λ (i : ℕ). i * rows commands) (add-one k));
                 within = omega arith;
                 rest-is =
-                    R .rest-is ∙ ap (λ (ps : List Pair). R .front ++ bothWays commands lengths relation ps) s
+                    R .rest-is ∙ ap (λ (ps : List Pair). R .front ++ bothWays commands lengths ρ ps) s
                     ∙ sym (append-assoc (R .front) a (b ++ rest)) ∙ sym (append-assoc (R .front ++ a) b rest);
               }

@@ -1,84 +1,50 @@
 -- What a review found, and the evidence for it. Assumes nothing.
-use mathlib.Core.Path.{_≡_, refl, sym, ap, _∙_, subst}
-use mathlib.Core.Logic.{_⊎_, inl, inr, ⊎-elim, by-cases, _≢_}
-use mathlib.Core.Bool.{Bool, true, false, cond}
-use mathlib.Core.List.{List, [], _∷_}
-use Prim.Native.Nat.{ℕ, zero, suc, _*_, _≤_, _<_, min}
+use mathlib.Core.Path.{_≡_, refl, sym, ap, _∙_}
+use mathlib.Core.Logic.{_⊎_, ⊎-elim, by-cases, _≢_}
+use mathlib.Core.Bool.{Bool, true, false}
+use mathlib.Core.List.{List, [], _∷_, reverse}
+use Prim.Native.Nat.{ℕ, _≤_, _<_}
 use native.Mathlib.Omega.{arith}
-use native.Mathlib.Decide.{ℕ-discrete}
-use lib.Dec.{eqb}
-use lib.ListN.{length, getD, take}
-use lib.Seq.{length-take-le, getD-take}
-use borrow.Author.Tests.{eq-eqb, ne-eqb, le-ltb, lt-ltb}
+use native.Mathlib.Decide.{ℕ-discrete, decLe}
+use lib.ListN.{length, getD, take, length-take}
+use lib.Seq.{getD-take}
 use Rattle.tables.specs.Rows.{rows}
-use Rattle.tables.specs.Rules.{Keeps}
 use Rattle.tables.specs.Verdicts.{tell, numbered}
 use Rattle.tables.specs.declared.verdict.Told.{Told}
-use Rattle.tables.specs.declared.verdict.Verdict.{Verdict}
+use Rattle.relation.specs.Table.{related}
 use Rattle.relation.proofs.Truth.{split}
 use Rattle.schedules.specs.Machine.{Program}
-use Rattle.schedules.specs.Order.{reach}
+use Rattle.schedules.specs.Order.{reach, Reuse, NoReuse}
+use Rattle.schedules.specs.Threads as threads
 use Rattle.sheet.specs.declared.Pair.{Pair}
 use Rattle.sheet.specs.declared.Sheet.{Sheet}
-use Rattle.sheet.specs.Sheet.{pair, mostKept, firsts, sheetOf}
+use Rattle.sheet.specs.Sheet.{pair, mostKept, firsts, sheetOf, keptPairs, firstKept}
+use Rattle.sheet.proofs.Sheets.{sheet-long, kept-are}
 use Rattle.faults.specs.declared.faults.Fault.{Fault}
 use Rattle.faults.specs.declared.faults.Fault.the-variants as fault
 use Rattle.findings.specs.declared.finding.Finding.{Finding}
-use Rattle.faults.specs.Faults.{faults, pairOf, faulty}
+use Rattle.faults.specs.Faults.{faults, race, pairOf, faulty}
 use Rattle.findings.specs.Findings.{firstPair, orPairs, faultTold, faultPairs}
-use Rattle.faults.proofs.Pairs.{in-order, some-fault, reuse-is, race-is}
+use Rattle.faults.proofs.Pairs.{in-order, reuse-is, race-is}
 use Rattle.replay.specs.InOrder.{orElse}
 use Rattle.replay.specs.Ending.{judged}
 use Rattle.replay.specs.Replay.{played}
 use Rattle.replay.specs.Program.{program}
 use Rattle.replay.specs.Schedules.{Clean}
-use Rattle.replay.proofs.Judged.{judged-small}
+use Rattle.replay.proofs.Judged.{judged-small, clean-told}
+use Rattle.replay.proofs.Programs as programs
 use Rattle.replay.proofs.Refusals.{or-first, or-second}
 use Rattle.rooms.specs.Refusals.{refused}
-use Rattle.order.specs.Order.{Reached}
+use Rattle.order.proofs.Reaching.{related-reaches}
 use Rattle.rooms.proofs.Refusals.{Admitted, admitted}
 use Rattle.review.specs.Judge.{generations, reaches, verdictOf, fills}
 use Rattle.review.specs.Agreement.{number, Reviewed}
 use Rattle.review.proofs.Judging.{settled}
-use Rattle.evidence.specs.declared.door.Evidence.{Evidence}
-use Rattle.evidence.specs.Evidence.{Disputes, Orders, against, firstFirst, secondFirst, kept, firstOf}
-use Rattle.evidence.specs.Doors.{Showable}
-use Rattle.evidence.proofs.Evident.{clean-told, disputes, first-in}
-
--- ---- the sheet of a list of pairs
-
-firsts-long : (n : ℕ) (ps : List Pair) → length (firsts n ps) ≡ n
-unfolding firsts
-firsts-long zero ps = refl
-firsts-long (suc n) [] = ap suc (firsts-long n [])
-firsts-long (suc n) (p ∷ ps) = ap suc (firsts-long n ps)
-
-firsts-at : (n : ℕ) (ps : List Pair) (k : ℕ) → k < n → k < length ps → getD (firsts n ps) k (pair 0 0) ≡ getD ps k (pair 0 0)
-unfolding firsts
-firsts-at zero ps k l h = absurd (omega arith)
-firsts-at (suc n) [] k l h = absurd (omega arith)
-firsts-at (suc n) (p ∷ ps) zero l h = refl
-firsts-at (suc n) (p ∷ ps) (suc k) l h = firsts-at n ps k (omega arith) (omega arith)
-
-module _ (ps : List Pair) where
-  pub sheet-long : length (sheetOf ps .pairs) ≡ mostKept
-  unfolding sheetOf
-  sheet-long = firsts-long mostKept ps
-
-  pub sheet-total : sheetOf ps .total ≡ length ps
-  unfolding sheetOf
-  sheet-total = refl
-
-  pub sheet-at : (k : ℕ) → k < min (sheetOf ps .total) mostKept → getD (sheetOf ps .pairs) k (pair 0 0) ≡ getD ps k (pair 0 0)
-  unfolding sheetOf
-  sheet-at k l = firsts-at mostKept ps k (omega arith) (omega arith)
-
--- the kept pairs of a sheet, by their place
-pub kept-long : (s : Sheet) → length (s .pairs) ≡ mostKept → length (kept s) ≡ min (s .total) mostKept
-kept-long s l = length-take-le (min (s .total) mostKept) (s .pairs) (omega arith)
-
-pub kept-at : (s : Sheet) (k : ℕ) → k < min (s .total) mostKept → getD (kept s) k (pair 0 0) ≡ getD (s .pairs) k (pair 0 0)
-kept-at s k l = getD-take (min (s .total) mostKept) (s .pairs) k (pair 0 0) l
+use Rattle.evidence.specs.Evidence.{Disputes, Orders, against, firstFirst, secondFirst, evidenceOf}
+use Rattle.evidence.specs.Parts.{AreCommands, Showable}
+use Rattle.evidence.specs.Doors.{evidenceRoom}
+use Rattle.evidence.proofs.Evident.{disputes, first-in, first-long}
+use Rattle.evidence.proofs.Slices.{evidence-alike, nothing-of}
 
 -- ---- the verdict by its number
 
@@ -124,7 +90,7 @@ module _ {commands lengths σ relation room : List ℕ} {r : Finding} {relation�
     both = told-faults (judged lengths (played commands lengths σ)) _ (judged-small (A .keeps) σ) (omega (arith, ap (λ (t : Told). t .number) told))
 
     clean : Clean commands lengths σ
-    clean = clean-told σ (both .0)
+    clean = clean-told commands lengths σ (both .0)
 
     number-is : number r ≡ faultTold commands lengths g (reach P g) .number
     number-is = ap (λ (t : Told). t .number) (told ∙ both .1)
@@ -137,8 +103,9 @@ module _ {commands lengths σ relation room : List ℕ} {r : Finding} {relation�
     sheet-is : r .sheet ≡ sheetOf (faultPairs commands lengths g (reach P g))
     sheet-is = R .demand₂ .sheet full
 
-    holds : Reached commands lengths g relation relation′
-    holds = R .demand₂ .relation-holds full
+    -- what the relation room holds is what reaches what
+    pub related-is : (c x : ℕ) → c < rows commands → x < rows commands → related relation′ (rows commands) c x ≡ reaches commands lengths σ c x
+    related-is = related-reaches commands lengths g relation relation′ (R .demand₂ .relation-holds full) (A .relation-fits)
 
   -- each place of a list of faults has a fault
   placed : (f : Fault) (k : ℕ) → k < length (found f)
@@ -148,63 +115,75 @@ module _ {commands lengths σ relation room : List ℕ} {r : Finding} {relation�
       let (i, j, li, lj, t, q) = L .only k l in
       (i, j, li, lj, t, rw q at (L .there i j li lj t .1))
 
-  low-pair : (f : Fault) (k : ℕ) → k < length (found f) → (getD (found f) k (pair 0 0) .first < rows commands) × (getD (found f) k (pair 0 0) .second < rows commands)
-  low-pair f k l = let (i, j, li, lj, _, e) = placed f k l in rw e (by f i j li lj)
-    where
-      by : (f : Fault) (i j : ℕ) → i < rows commands → j < rows commands → (pairOf f i j .first < rows commands) × (pairOf f i j .second < rows commands)
-      by fault.Reuse i j li lj = (lj, li)
-      by fault.Race i j li lj = (li, lj)
-
   -- the sheet is that of the faults of a kind
   module _ (ten : number r ≡ 10) where
-    h : 10 ≤ number r
-    h = omega arith
-
-    lists : (p : Pair) × (rest : List Pair) × (found fault.Reuse ≡ p ∷ rest) × (orPairs (found fault.Reuse) (found fault.Race) ≡ found fault.Reuse)
-    lists = by-ten (found fault.Reuse) (found fault.Race) (sym (number-is h) ∙ ten)
-
-    ten-sheet : r .sheet ≡ sheetOf (found fault.Reuse)
-    ten-sheet = sheet-is h ∙ ap sheetOf (lists .3)
-
-    pub ten-some : 1 ≤ r .sheet .total
-    ten-some = omega (arith, ap (λ (s : Sheet). s .total) ten-sheet, sheet-total (found fault.Reuse), ap length (lists .2))
-
-    pub ten-disputes : Disputes commands lengths σ (against commands lengths relation′ (firstOf (r .sheet)))
-    unfolding mostKept
-    ten-disputes =
-        let some : 1 ≤ length (found fault.Reuse) = omega (arith, ap length (lists .2)) in
-        let (c₂, c₁, l₂, l₁, t, e) = placed fault.Reuse 0 (omega arith) in
-        let q : firstOf (r .sheet) ≡ pair c₁ c₂ = ap firstOf ten-sheet ∙ sheet-at (found fault.Reuse) 0 (omega (arith, sheet-total (found fault.Reuse))) ∙ e in
-        subst (λ (p : Pair). Disputes commands lengths σ (against commands lengths relation′ p)) (sym q)
-        (disputes (A .keeps) (clean h) (holds h) (A .relation-fits) c₁ c₂ (reuse-is commands lengths g (A .keeps) c₁ c₂ l₁ l₂ .0 t))
-
-  module _ (eleven : number r ≡ 11) where
     late : 10 ≤ number r
     late = omega arith
 
+    lists : (p : Pair) × (rest : List Pair) × (found fault.Reuse ≡ p ∷ rest) × (orPairs (found fault.Reuse) (found fault.Race) ≡ found fault.Reuse)
+    lists = by-ten (found fault.Reuse) (found fault.Race) (sym (number-is late) ∙ ten)
+
+    first-fault : (c₁ : ℕ) × (c₂ : ℕ) × (c₁ < rows commands) × (c₂ < rows commands) × Reuse P g c₁ c₂ × (firstKept (r .sheet) ≡ pair c₁ c₂)
+    unfolding sheetOf mostKept firsts
+    first-fault =
+        let (p, rest, q, or) = lists in
+        let (c₂, c₁, l₂, l₁, t, e) = placed fault.Reuse 0 (omega (arith, ap length q)) in
+        let is : firstKept (r .sheet) ≡ p = ap firstKept (sheet-is late) ∙ rw (or, q) in
+        (c₁, c₂, l₁, l₂, reuse-is commands lengths g (A .keeps) c₁ c₂ l₁ l₂ .0 t, is ∙ ap (λ (ps : List Pair). getD ps 0 (pair 0 0)) (sym q) ∙ e)
+
+    pub ten-commands : AreCommands commands (firstKept (r .sheet))
+    ten-commands = let (c₁, c₂, l₁, l₂, _, e) = first-fault in rw e (l₁, l₂)
+
+    pub ten-disputes : Disputes commands lengths σ (against commands lengths (reaches commands lengths σ) (firstKept (r .sheet)))
+    ten-disputes =
+        let (c₁, c₂, l₁, l₂, u, e) = first-fault in
+        rw e (disputes (A .keeps) (clean late) c₁ c₂ u)
+
+  module _ (eleven : number r ≡ 11) where
+    after : 10 ≤ number r
+    after = omega arith
+
     races : (found fault.Reuse ≡ []) × (orPairs (found fault.Reuse) (found fault.Race) ≡ found fault.Race)
-    races = by-eleven (found fault.Reuse) (found fault.Race) (sym (number-is late) ∙ eleven)
+    races = by-eleven (found fault.Reuse) (found fault.Race) (sym (number-is after) ∙ eleven)
 
-    eleven-sheet : r .sheet ≡ sheetOf (found fault.Race)
-    eleven-sheet = sheet-is late ∙ ap sheetOf (races .1)
+    kept-is : keptPairs (r .sheet) ≡ take mostKept (found fault.Race)
+    kept-is = ap keptPairs (sheet-is after ∙ ap sheetOf (races .1)) ∙ kept-are (found fault.Race)
 
-    abbrev pub Opposes : Pair → Type 0
-    Opposes p =
-        Orders commands lengths (p .first) (p .second) (firstFirst commands lengths relation′ p)
-        × Orders commands lengths (p .second) (p .first) (secondFirst commands lengths relation′ p)
+    -- each pair that is kept is a race
+    module _ (k : ℕ) (l : k < length (keptPairs (r .sheet))) where
+      abbrev p : Pair
+      p = getD (keptPairs (r .sheet)) k (pair 0 0)
 
-    pub eleven-opposes : (k : ℕ) → k < length (kept (r .sheet)) → Opposes (getD (kept (r .sheet)) k (pair 0 0))
-    eleven-opposes k l =
-        let ps = found fault.Race in
-        let m : k < min (sheetOf ps .total) mostKept = omega (arith, l, ap (λ (s : Sheet). length (kept s)) eleven-sheet, kept-long (sheetOf ps) (sheet-long ps)) in
-        let (x, y, lx, ly, t, e) = placed fault.Race k (omega (arith, m, sheet-total ps)) in
-        let q : getD (kept (r .sheet)) k (pair 0 0) ≡ pair x y = ap (λ (s : Sheet). getD (kept s) k (pair 0 0)) eleven-sheet ∙ kept-at (sheetOf ps) k m ∙ sheet-at ps k m ∙ e in
-        let (less, _, _, a, b) = race-is commands lengths g x y lx ly .0 t in
-        let none = settled (A .keeps) σ (clean late) (races .0) .none in
-        subst Opposes (sym q) (
-          first-in (A .keeps) (clean late) (holds late) (A .relation-fits) none x y lx ly (λ z. omega arith) b,
-          first-in (A .keeps) (clean late) (holds late) (A .relation-fits) none y x ly lx (λ z. omega arith) a,
-        )
+      raced : (x : ℕ) × (y : ℕ) × (x < rows commands) × (y < rows commands) × (race commands lengths (reach P g) x y ≡ true) × (p ≡ pair x y)
+      raced =
+          let ps = found fault.Race in
+          let long = ap length kept-is ∙ length-take mostKept ps in
+          let (x, y, lx, ly, t, e) = placed fault.Race k (omega (arith, l, long)) in
+          (x, y, lx, ly, t, ap (λ (qs : List Pair). getD qs k (pair 0 0)) kept-is ∙ getD-take mostKept ps k (pair 0 0) (omega (arith, l, long)) ∙ e)
+
+      pub eleven-commands : AreCommands commands p
+      eleven-commands = let (x, y, lx, ly, _, e) = raced in rw e (lx, ly)
+
+      none : NoReuse P (threads.gens P (programs.threads (A .keeps)) (reverse σ))
+      none = settled (A .keeps) σ (clean after) (races .0) .none
+
+      -- two schedules of M entries each, in opposite orders
+      pub eleven-orders :
+          Orders commands lengths (p .first) (p .second) (firstFirst commands lengths (reaches commands lengths σ) p)
+          × Orders commands lengths (p .second) (p .first) (secondFirst commands lengths (reaches commands lengths σ) p)
+      eleven-orders =
+          let (x, y, lx, ly, t, e) = raced in
+          let (less, _, _, a, b) = race-is commands lengths g x y lx ly .0 t in
+          rw e (
+            first-in (A .keeps) (clean after) none x y lx ly (λ z. omega arith) b,
+            first-in (A .keeps) (clean after) none y x ly lx (λ z. omega arith) a,
+          )
+
+      pub eleven-long :
+          (length (firstFirst commands lengths (reaches commands lengths σ) p) ≡ rows commands)
+          × (length (secondFirst commands lengths (reaches commands lengths σ) p) ≡ rows commands)
+      eleven-long =
+          (first-long (A .keeps) (clean after) none (p .second) (p .first), first-long (A .keeps) (clean after) none (p .first) (p .second))
 
   -- ---- what writing asks for
 
@@ -214,24 +193,22 @@ module _ {commands lengths σ relation room : List ℕ} {r : Finding} {relation�
       (λ (f : fills (number r) ≡ false). ([], R .demand₁ .empty f))
       (split (fills (number r)))
 
-  pub showable : {room″ : List ℕ} → 32 * rows commands ≤ length room″ → Showable commands lengths (number r) (r .sheet) room″
+  pub showable : {room″ : List ℕ} → evidenceRoom (rows commands) ≤ length room″ → Showable commands lengths (number r) (r .sheet) room″
+  unfolding mostKept
   showable fits =
       record {
         keeps = A .keeps;
-        fits = fits;
+        fits = omega arith;
         long = ap (λ (s : Sheet). length (s .pairs)) (some-sheet .1) ∙ sheet-long (some-sheet .0);
-        some = ten-some;
-        low = low;
+        reuse = ten-commands;
+        races = eleven-commands;
       }
-    where
-      at : (f : Fault) → r .sheet ≡ sheetOf (found f) → (k : ℕ) → k < min (r .sheet .total) mostKept
-          → (getD (r .sheet .pairs) k (pair 0 0) .first < rows commands) × (getD (r .sheet .pairs) k (pair 0 0) .second < rows commands)
-      at f e k l =
-          let m : k < min (sheetOf (found f) .total) mostKept = omega (arith, l, ap (λ (s : Sheet). s .total) e) in
-          let q : getD (r .sheet .pairs) k (pair 0 0) ≡ getD (found f) k (pair 0 0) = ap (λ (s : Sheet). getD (s .pairs) k (pair 0 0)) e ∙ sheet-at (found f) k m in
-          rw q (low-pair f k (omega (arith, m, sheet-total (found f))))
 
-      low : (number r ≡ 10) ⊎ (number r ≡ 11) → (k : ℕ) → k < min (r .sheet .total) mostKept
-          → (getD (r .sheet .pairs) k (pair 0 0) .first < rows commands) × (getD (r .sheet .pairs) k (pair 0 0) .second < rows commands)
-      low (inl e) = at fault.Reuse (ten-sheet e)
-      low (inr e) = at fault.Race (eleven-sheet e)
+  -- the evidence over the room's table is that over what reaches what
+  pub evidence-is : evidenceOf commands lengths (related relation′ (rows commands)) (number r) (r .sheet) ≡ evidenceOf commands lengths (reaches commands lengths σ) (number r) (r .sheet)
+  evidence-is =
+      by-cases (decLe 10 (number r))
+      (λ (l : 10 ≤ number r). evidence-alike (A .keeps) (related-is l) (number r) (r .sheet) ten-commands eleven-commands)
+      (λ (n : ¬ (10 ≤ number r)).
+      let none : (ρ : ℕ → ℕ → Bool) → evidenceOf commands lengths ρ (number r) (r .sheet) ≡ [] = λ ρ. nothing-of commands lengths ρ (number r) (r .sheet) (λ e. n (omega arith)) (λ e. n (omega arith)) in
+      none _ ∙ sym (none _))

@@ -1,43 +1,59 @@
 -- What a review with evidence promises.
 use mathlib.Core.Path.{_≡_}
-use mathlib.Core.Logic.{_⊎_, _≢_}
+use mathlib.Core.Logic.{_≢_}
 use mathlib.Core.Bool.{cond}
 use mathlib.Core.List.{List, []}
-use Prim.Native.Nat.{ℕ, _*_, _≤_, _<_, min}
+use Prim.Native.Nat.{ℕ, _+_, _*_, _<_}
 use lib.Dec.{ltb}
-use lib.ListN.{length, getD}
+use lib.ListN.{length, getD, take, drop}
 use Rattle.tables.specs.Rows.{rows}
-use Rattle.tables.specs.Rules.{Keeps}
 use Rattle.tables.specs.Verdicts.{tell, numbered}
 use Rattle.tables.specs.declared.verdict.Told.{Told}
 use Rattle.sheet.specs.declared.Pair.{Pair}
-use Rattle.sheet.specs.declared.Sheet.{Sheet}
-use Rattle.sheet.specs.Sheet.{pair, sheetOf, mostKept}
+use Rattle.sheet.specs.Sheet.{pair, sheetOf, keptPairs}
 use Rattle.replay.specs.InOrder.{orElse}
 use Rattle.replay.specs.Writer.{FilledBy}
 use Rattle.rooms.specs.Refusals.{refused}
+use Rattle.review.specs.Judge.{reaches}
 use Rattle.review.specs.Agreement.{number, Reviewed}
 use Rattle.evidence.specs.declared.door.Evidence.{Evidence}
-use Rattle.evidence.specs.Evidence.{Disputes, Orders, against, firstFirst, secondFirst, kept, firstOf, evidenceOf}
+use Rattle.evidence.specs.Evidence.{Disputes, Orders, evidenceOf}
 
--- 4: evidence room under 32 M (4), whatever the verdict; tested with the other rooms, the lowest digit if several
+-- The room needs 32 × M numbers whatever the verdict.
+abbrev pub evidenceRoom : ℕ → ℕ
+evidenceRoom m = 32 * m
+
+-- 4: evidence room short (4)
 abbrev pub shortEvidence : ℕ → ℕ → Told
-shortEvidence m room = cond (ltb room (32 * m)) (tell 4 4 0) (tell 0 0 0)
+shortEvidence m room = cond (ltb room (evidenceRoom m)) (tell 4 4 0) (tell 0 0 0)
 
--- 1 to 4, of tables and the lengths of the three rooms
-unfoldable pub refusedToo : List ℕ → List ℕ → ℕ → ℕ → ℕ → Told
-refusedToo commands lengths relation generations room = orElse (refused commands lengths relation generations) (shortEvidence (rows commands) room)
+-- 1 to 4, of tables and the lengths of the three rooms; the lowest digit if several are short
+unfoldable pub refusedShowing : List ℕ → List ℕ → (relation generations room : ℕ) → Told
+refusedShowing commands lengths relation generations room = orElse (refused commands lengths relation generations) (shortEvidence (rows commands) room)
 
--- what is written is asked for with this: the kept pairs of a reuse fault or a race are commands
-pub record Showable (commands lengths : List ℕ) (n : ℕ) (s : Sheet) (room : List ℕ) : Type 0 where
-  pub keeps : Keeps commands lengths
-  pub fits : 32 * rows commands ≤ length room
-  pub long : length (s .pairs) ≡ mostKept
-  pub some : n ≡ 10 → 1 ≤ s .total
-  pub low : (n ≡ 10) ⊎ (n ≡ 11) → (k : ℕ) → k < min (s .total) mostKept
-      → (getD (s .pairs) k (pair 0 0) .first < rows commands) × (getD (s .pairs) k (pair 0 0) .second < rows commands)
+-- the i-th of schedules of m entries each that stand end to end
+abbrev pub scheduleAt : ℕ → ℕ → List ℕ → List ℕ
+scheduleAt m i room = take m (drop (i * m) room)
 
--- nothing was done
+-- The k-th pair's two schedules, x first before y first.
+pub record Opposes (commands lengths room : List ℕ) (k : ℕ) (p : Pair) : Type 0 where
+  pub x-first : Orders commands lengths (p .first) (p .second) (scheduleAt (rows commands) (k * 2) room)
+  pub y-first : Orders commands lengths (p .second) (p .first) (scheduleAt (rows commands) (k * 2 + 1) room)
+
+-- What stands in the evidence room, of tables and rooms that pass.
+pub record HoldsEvidence (commands lengths schedule room : List ℕ) (r : Evidence) (room′ : List ℕ) : Type 0 where
+  -- the schedules, from the front, end to end; the answer says how many entries; the rest of the room is kept
+  pub written : FilledBy (evidenceOf commands lengths (reaches commands lengths schedule) (number (r .finding)) (r .finding .sheet)) room room′ (r .entries)
+  -- 10: a second schedule, of as many entries as are told
+  pub disputes : number (r .finding) ≡ 10 → Disputes commands lengths schedule (take (r .entries) room′)
+  -- 11: for each pair kept two schedules of M entries each, in opposite orders
+  pub opposes : number (r .finding) ≡ 11 → (k : ℕ) → k < length (keptPairs (r .finding .sheet))
+      → Opposes commands lengths room′ k (getD (keptPairs (r .finding .sheet)) k (pair 0 0))
+  pub count : number (r .finding) ≡ 11 → r .entries ≡ length (keptPairs (r .finding .sheet)) * rows commands * 2
+  -- other verdicts write nothing
+  pub nothing : number (r .finding) ≢ 10 → number (r .finding) ≢ 11 → (r .entries ≡ 0) × (room′ ≡ room)
+
+-- Nothing was done.
 pub record Untouched (relation generations room : List ℕ) (r : Evidence) (relation′ generations′ room′ : List ℕ) : Type 0 where
   pub sheet : r .finding .sheet ≡ sheetOf []
   pub entries : r .entries ≡ 0
@@ -45,27 +61,14 @@ pub record Untouched (relation generations room : List ℕ) (r : Evidence) (rela
   pub generations-kept : generations′ ≡ generations
   pub room-kept : room′ ≡ room
 
--- The review, and in the room, end to end, the schedules that show its verdict; the room beyond them is kept.
+-- The contract of `review_evidence`: 1 to 4 with nothing done; or the review as it is without evidence, and the evidence.
 pub record Evidenced (commands lengths schedule relation generations room : List ℕ) (r : Evidence) (relation′ generations′ room′ : List ℕ) : Type 0 where
   pub refused :
-      refusedToo commands lengths (length relation) (length generations) (length room) .number ≢ 0
-      → (numbered (r .finding .verdict) ≡ refusedToo commands lengths (length relation) (length generations) (length room))
+      refusedShowing commands lengths (length relation) (length generations) (length room) .number ≢ 0
+      → (numbered (r .finding .verdict) ≡ refusedShowing commands lengths (length relation) (length generations) (length room))
       × Untouched relation generations room r relation′ generations′ room′
   pub reviewed :
-      refusedToo commands lengths (length relation) (length generations) (length room) .number ≡ 0
+      refusedShowing commands lengths (length relation) (length generations) (length room) .number ≡ 0
       → Reviewed commands lengths schedule relation generations (r .finding) relation′ generations′
-  pub written :
-      refusedToo commands lengths (length relation) (length generations) (length room) .number ≡ 0
-      → FilledBy (evidenceOf commands lengths relation′ (number (r .finding)) (r .finding .sheet)) room room′ (r .entries)
-  -- 10: one schedule, which shows that the offered one is disputed
-  pub disputes :
-      refusedToo commands lengths (length relation) (length generations) (length room) .number ≡ 0
-      → number (r .finding) ≡ 10 → Disputes commands lengths schedule (against commands lengths relation′ (firstOf (r .finding .sheet)))
-  -- 11: for each kept pair two schedules, in opposite orders
-  pub opposes :
-      refusedToo commands lengths (length relation) (length generations) (length room) .number ≡ 0
-      → number (r .finding) ≡ 11 → (k : ℕ) → k < length (kept (r .finding .sheet))
-      → Orders commands lengths (getD (kept (r .finding .sheet)) k (pair 0 0) .first) (getD (kept (r .finding .sheet)) k (pair 0 0) .second)
-      (firstFirst commands lengths relation′ (getD (kept (r .finding .sheet)) k (pair 0 0)))
-      × Orders commands lengths (getD (kept (r .finding .sheet)) k (pair 0 0) .second) (getD (kept (r .finding .sheet)) k (pair 0 0) .first)
-      (secondFirst commands lengths relation′ (getD (kept (r .finding .sheet)) k (pair 0 0)))
+  pub holds :
+      refusedShowing commands lengths (length relation) (length generations) (length room) .number ≡ 0 → HoldsEvidence commands lengths schedule room r room′

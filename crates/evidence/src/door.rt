@@ -1,10 +1,11 @@
 // A review with evidence.
 ghost use mathlib.Core.Path.{_≡_};
-ghost use Prim.Native.Nat.{min};
-ghost use Rattle.sheet.specs.Sheet.{mostKept};
+ghost use Rattle.tables.specs.Rows.{rows};
+ghost use Rattle.relation.specs.Table.{related};
 ghost use Rattle.replay.specs.Writer.{FilledBy};
 ghost use Rattle.evidence.specs.Evidence.{evidenceOf};
-ghost use Rattle.evidence.specs.Doors.{Showable, Evidenced};
+ghost use Rattle.evidence.specs.Parts.{Showable};
+ghost use Rattle.evidence.specs.Doors.{Evidenced};
 use crate::writing::write_at;
 use crate::writing::write_races;
 use findings::Finding;
@@ -12,12 +13,18 @@ use findings::bare;
 use review::review;
 use rooms::refuse;
 use sheet::Sheet;
+use sheet::kept;
 use tables::Verdict;
 
 // What a review found, and how many entries of evidence were written.
 pub struct Evidence {
     pub finding: Finding,
     pub entries: usize,
+}
+
+impl Evidence {
+    // numbers of the room for each command: two schedules for each pair that a sheet keeps
+    pub const ROOM: usize = Sheet::KEPT * 2;
 }
 
 fn nothing(finding: Finding) -> Evidence
@@ -27,16 +34,6 @@ fn nothing(finding: Finding) -> Evidence
         finding,
         entries: 0,
     }
-}
-
-// So many of the pairs are kept.
-fn how_many(total: usize) -> usize
-    ensures { λ r. ⌜ r ≡ min total mostKept ⌝ }
-{
-    if total < Sheet::KEPT {
-        return total;
-    }
-    Sheet::KEPT
 }
 
 // The schedules that show a verdict, from the front of the room; answers how many entries.
@@ -49,7 +46,7 @@ fn show(
     room: &mut [u32],
 ) -> usize
     requires { ⌜ Showable (now commands) (now lengths) number sheet (now room) ⌝ }
-    ensures { λ r. ⌜ FilledBy (evidenceOf (now (commands .entry)) (now (lengths .entry)) (now (relation .entry)) number sheet) (now (room .entry)) (now (room .exit)) r ⌝ }
+    ensures { λ r. ⌜ FilledBy (evidenceOf (now (commands .entry)) (now (lengths .entry)) (related (now (relation .entry)) (rows (now (commands .entry)))) number sheet) (now (room .entry)) (now (room .exit)) r ⌝ }
 {
     let pairs = sheet.pairs;
     if number == 10 {
@@ -59,13 +56,13 @@ fn show(
         return write_at(commands, lengths, relation, c, d, room, 0);
     }
     if number == 11 {
-        let n = how_many(sheet.total);
+        let n = kept(sheet.total);
         return write_races(commands, lengths, relation, pairs, n, room);
     }
     0
 }
 
-// Any tables, any schedule, any rooms: the review, and the schedules that show verdicts 10 and 11.
+// Any tables, any schedule, any rooms: the review, and the schedules that show verdicts 10 and 11. All rooms are tested before one is touched.
 pub fn review_evidence(
     commands: &[u32],
     lengths: &[u32],
@@ -80,7 +77,7 @@ pub fn review_evidence(
     if refusal.number().number != 0 {
         return nothing(bare(refusal));
     }
-    if room.len() < 32 * (commands.len() / 3) {
+    if room.len() < Evidence::ROOM * (commands.len() / 3) {
         return nothing(bare(Verdict::ShortRoom(4)));
     }
     let finding = review(commands, lengths, schedule, relation, generations);

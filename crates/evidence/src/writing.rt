@@ -1,8 +1,10 @@
 // Schedules into a room, one after the other.
-ghost use Prim.Native.Nat.{_≤_};
 ghost use lib.ListN.{take};
+ghost use Rattle.tables.specs.Rows.{rows};
+ghost use Rattle.relation.specs.Table.{related};
 ghost use Rattle.replay.specs.Writer.{apartSchedule};
-ghost use Rattle.evidence.specs.Evidence.{bothWays, PutsAt, FitsAt, FitsAll};
+ghost use Rattle.evidence.specs.Evidence.{bothWays};
+ghost use Rattle.evidence.specs.Parts.{PutsAt, FitsAt, FitsAll};
 use replay::write_apart;
 use sheet::Pair;
 use sheet::Sheet;
@@ -18,13 +20,13 @@ pub(crate) fn write_at(
     at: usize,
 ) -> usize
     requires { ⌜ FitsAt (now commands) (now lengths) (now room) at ⌝ }
-    ensures { λ r. ⌜ PutsAt (apartSchedule (now (commands .entry)) (now (lengths .entry)) (now (relation .entry)) c d) (now (room .entry)) (now (room .exit)) at r ⌝ }
+    ensures { λ r. ⌜ PutsAt (apartSchedule (now (commands .entry)) (now (lengths .entry)) (related (now (relation .entry)) (rows (now (commands .entry)))) c d) (now (room .entry)) (now (room .exit)) at r ⌝ }
 {
     let written = write_apart(commands, lengths, relation, c, d, &mut room[at..]);
     at + written.length
 }
 
-// Both ways of each of the first n pairs, from the front; answers how many entries.
+// Both ways of each of the first n pairs, x first before y first, from the front; answers how many entries.
 pub(crate) fn write_races(
     commands: &[u32],
     lengths: &[u32],
@@ -34,7 +36,7 @@ pub(crate) fn write_races(
     room: &mut [u32],
 ) -> usize
     requires { ⌜ FitsAll (now commands) (now lengths) pairs n (now room) ⌝ }
-    ensures { λ r. ⌜ PutsAt (bothWays (now (commands .entry)) (now (lengths .entry)) (now (relation .entry)) (take n pairs)) (now (room .entry)) (now (room .exit)) 0 r ⌝ }
+    ensures { λ r. ⌜ PutsAt (bothWays (now (commands .entry)) (now (lengths .entry)) (related (now (relation .entry)) (rows (now (commands .entry)))) (take n pairs)) (now (room .entry)) (now (room .exit)) 0 r ⌝ }
 {
     let mut at = 0;
     let mut k = 0;

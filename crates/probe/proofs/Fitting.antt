@@ -1,9 +1,9 @@
 -- What is told fits the places of an answer room: no cast loses a bit. Assumes nothing.
 use mathlib.Core.Path.{_≡_, refl, sym, ap, _∙_}
-use mathlib.Core.Logic.{⊎-elim, by-cases, _≢_}
+use mathlib.Core.Logic.{by-cases, _≢_}
 use mathlib.Core.Bool.{Bool, true, false, cond}
-use mathlib.Core.List.{List, [], _∷_}
-use Prim.Native.Nat.{ℕ, zero, suc, _≤_}
+use mathlib.Core.List.{List}
+use Prim.Native.Nat.{ℕ, _≤_}
 use native.Mathlib.Decide.{ℕ-discrete}
 use native.Mathlib.Omega.{arith}
 use lib.Dec.{ltb}
@@ -13,8 +13,6 @@ use Rattle.tables.specs.Rows.{rows}
 use Rattle.tables.specs.Rules.{checked}
 use Rattle.tables.specs.Verdicts.{tell, numbered}
 use Rattle.tables.specs.declared.verdict.Told.{Told}
-use Rattle.tables.proofs.Rules.{passes-zero}
-use Rattle.relation.proofs.Truth.{split}
 use Rattle.grammar.specs.Grammar.{allCommands, threads}
 use Rattle.notation.specs.Reading.{mostBytes, answered, restAt}
 use Rattle.notation.specs.Promise.{Read}
@@ -23,46 +21,31 @@ use Rattle.notation.specs.declared.reading.Reading.the-variants.{Unfit, Over, A
 use Rattle.replay.specs.Writer.{unwritten, shortRoom}
 use Rattle.replay.specs.Doors.{WritesSchedule}
 use Rattle.replay.specs.declared.writer.Written.{Written}
-use Rattle.replay.proofs.Refusals.{or-first, or-either}
+use Rattle.replay.proofs.Refusals.{or-either, unwritten-keeps}
 use Rattle.replay.proofs.Places.{Placed, placed, checked-placed, schedule-few}
-use Rattle.sheet.specs.Sheet.{mostKept, firsts, sheetOf}
-use Rattle.review.specs.Judge.{fills}
-use Rattle.review.specs.Agreement.{Reviewed, number}
-use Rattle.sheet.specs.declared.Pair.{Pair}
-use Rattle.sheet.specs.declared.Sheet.{Sheet}
-use Rattle.findings.specs.declared.finding.Finding.{Finding}
+use Rattle.review.specs.Agreement.{number}
 use Rattle.probe.specs.Numbers.{Counted, PairsCounted}
-use Rattle.review.proofs.Bounds.{finding-small}
+use Rattle.evidence.specs.declared.door.Evidence.{Evidence}
+use Rattle.evidence.specs.Doors.{Evidenced}
+use Rattle.evidence.proofs.Bounds.{evidence-small, evidence-sheet, entries-few}
 
 -- ---- the review
 
-firsts-length : (n : ℕ) (ps : List Pair) → length (firsts n ps) ≡ n
-unfolding firsts
-firsts-length zero ps = refl
-firsts-length (suc n) [] = ap suc (firsts-length n [])
-firsts-length (suc n) (p ∷ ps) = ap suc (firsts-length n ps)
-
-sheet-length : {s : Sheet} (ps : List Pair) → s ≡ sheetOf ps → length (s .pairs) ≡ mostKept
-unfolding sheetOf
-sheet-length ps e = ap (λ (s : Sheet). length (s .pairs)) e ∙ firsts-length mostKept ps
-
-module _ {commands lengths σ relation room : List ℕ} {r : Finding} {relation′ room′ : List ℕ} (R : Reviewed commands lengths σ relation room r relation′ room′) where
-  pub finding-counted : Counted (numbered (r .verdict)) (r .sheet .total) 0
+module _ {commands lengths σ relation generations evidence : List ℕ} {r : Evidence} {relation′ generations′ evidence′ : List ℕ}
+    (E : Evidenced commands lengths σ relation generations evidence r relation′ generations′ evidence′) where
+  pub review-counted : Counted (numbered (r .finding .verdict)) (r .finding .sheet .total) (r .entries)
   unfolding mostRows
-  finding-counted =
-      let S = finding-small R in
-      record { place = omega (arith, S .place); also = omega (arith, S .also); third = omega (arith, S .total); fourth = omega arith }
+  review-counted =
+      let S = evidence-small E in
+      record { place = omega (arith, S .place); also = omega (arith, S .also); third = omega (arith, S .total); fourth = omega (arith, entries-few E) }
 
-  pub pairs-counted : PairsCounted (r .sheet .pairs)
+  pub pairs-counted : PairsCounted (r .finding .sheet .pairs)
   unfolding mostRows
   pairs-counted =
       record {
-        many =
-            ⊎-elim (λ (t : fills (number r) ≡ true). sheet-length _ (R .demand₂ .sheet t))
-            (λ (f : fills (number r) ≡ false). sheet-length _ (R .demand₁ .empty f))
-            (split (fills (number r)));
+        many = evidence-sheet E;
         each = λ k h.
-            let (a, b) = finding-small R .pairs k h in
+            let (a, b) = evidence-small E .pairs k h in
             (omega arith, omega arith);
       }
 
@@ -78,19 +61,12 @@ unwritten-placed commands lengths room =
     by false = placed 0 0 (omega arith)
 
 -- and there are few where a schedule is written
-unwritten-none : (commands lengths : List ℕ) (room : ℕ) → unwritten commands lengths room .number ≡ 0 → checked commands lengths .number ≡ 0
-unfolding unwritten
-unwritten-none commands lengths room e =
-    by-cases (ℕ-discrete (checked commands lengths .number) 0) (λ (z : checked commands lengths .number ≡ 0). z)
-    (λ (n : checked commands lengths .number ≢ 0). ap (λ (t : Told). t .number) (or-first (checked commands lengths) (shortRoom (rows commands) room) n) ∙ e)
-
 module _ {commands lengths room room′ : List ℕ} {r : Written} (W : WritesSchedule commands lengths room room′ r) where
   written-few : r .length ≤ mostRows
   written-few =
       by-cases (ℕ-discrete (numbered (r .verdict) .number) 0)
       (λ (e : numbered (r .verdict) .number ≡ 0).
-      let z = unwritten-none commands lengths (length room) (ap (λ (t : Told). t .number) (sym (W .verdict)) ∙ e) in
-      let K = passes-zero commands lengths z in
+      let K = unwritten-keeps commands lengths (length room) (ap (λ (t : Told). t .number) (sym (W .verdict)) ∙ e) in
       omega (arith, W .wrote e .long, schedule-few commands lengths, K .few-rows))
       (λ (n : numbered (r .verdict) .number ≢ 0). omega (arith, W .refused n .0))
 

@@ -3,7 +3,7 @@ use mathlib.Core.Path.{_≡_, refl, ap, _∙_}
 use mathlib.Core.List.{List, _++_}
 use Prim.Native.Nat.{ℕ, _-_, _≤_, _<_, min}
 use native.Mathlib.Omega.{arith}
-use lib.ListN.{length, set, take, drop, length-drop}
+use lib.ListN.{length, set, take, length-drop}
 use Rattle.tables.specs.Verdicts.{numbered}
 use Rattle.tables.specs.declared.verdict.Told.{Told}
 use Rattle.spelling.specs.Over.{over}
@@ -12,26 +12,27 @@ use Rattle.notation.specs.Promise.{Read}
 use Rattle.notation.specs.declared.reading.Reading.{Reading}
 use Rattle.replay.specs.Doors.{WritesSchedule}
 use Rattle.replay.specs.declared.writer.Written.{Written}
-use Rattle.review.specs.Agreement.{Reviewed}
-use Rattle.findings.specs.declared.finding.Finding.{Finding}
+use Rattle.evidence.specs.declared.door.Evidence.{Evidence}
+use Rattle.evidence.specs.Doors.{Evidenced}
 use Rattle.probe.specs.declared.counts.Counts.{Counts}
 use Rattle.probe.specs.Numbers.{answerRoom, largest, toldNumbers, pairNumbers, countsOf}
 use Rattle.probe.specs.Promise.{ProbesReview, ProbesSchedule, ProbesRead}
 use Rattle.probe.proofs.Fitting.{rest-in}
 use Rattle.probe.proofs.Putting.{told-and-more, told-and-one}
 
-module _ (commands lengths σ relation room answer : List ℕ) where
-  pub review-short : length answer < answerRoom → ProbesReview commands lengths σ relation room answer relation room answer 14
-  review-short h = record { refuses = λ _. (refl, refl, refl, refl); found = λ l. absurd (omega arith) }
+module _ (commands lengths σ relation generations evidence answer : List ℕ) where
+  pub review-short : length answer < answerRoom → ProbesReview commands lengths σ relation generations evidence answer relation generations evidence answer 14
+  review-short h = record { refuses = λ _. (refl, refl, refl, refl, refl); found = λ l. absurd (omega arith) }
 
-  pub review-told : {r : Finding} {relation′ room′ answer′ answer″ : List ℕ} {t : Told} → answerRoom ≤ length answer
-      → Reviewed commands lengths σ relation room r relation′ room′ → t ≡ numbered (r .verdict)
-      → answer′ ≡ over (toldNumbers t (r .sheet .total) 0) answer → answer″ ≡ over (take 4 answer′ ++ pairNumbers (r .sheet .pairs)) answer′
-      → ProbesReview commands lengths σ relation room answer relation′ room′ answer″ (t .number)
+  pub review-told : {r : Evidence} {relation′ generations′ evidence′ answer′ answer″ : List ℕ} {t : Told} → answerRoom ≤ length answer
+      → Evidenced commands lengths σ relation generations evidence r relation′ generations′ evidence′ → t ≡ numbered (r .finding .verdict)
+      → answer′ ≡ over (toldNumbers t (r .finding .sheet .total) (r .entries)) answer → answer″ ≡ over (take 4 answer′ ++ pairNumbers (r .finding .sheet .pairs)) answer′
+      → ProbesReview commands lengths σ relation generations evidence answer relation′ generations′ evidence′ answer″ (t .number)
   review-told {r} {t = t} h R e p q =
+      let s = r .finding .sheet in
       record {
         refuses = λ l. absurd (omega arith);
-        found = λ _. (r, R, ap (λ (t : Told). t .number) e, q ∙ rw (p, e) (told-and-more (numbered (r .verdict)) (r .sheet .total) 0 answer (pairNumbers (r .sheet .pairs))));
+        found = λ _. (r, R, ap (λ (t : Told). t .number) e, q ∙ rw (p, e) (told-and-more (numbered (r .finding .verdict)) (s .total) (r .entries) answer (pairNumbers (s .pairs))));
       }
 
 module _ (commands lengths room answer : List ℕ) where

@@ -17,26 +17,26 @@ use Rattle.notation.proofs.Readings.{read-one}
 use Rattle.replay.specs.declared.writer.Written.{Written}
 use Rattle.replay.proofs.Unique.{write-one}
 use Rattle.review.specs.Agreement.{number}
-use Rattle.findings.specs.declared.finding.Finding.{Finding}
-use Rattle.review.proofs.Unique.{review-one}
-use Rattle.probe.specs.Numbers.{answerRoom, findingNumbers, writtenNumbers, readingNumbers}
+use Rattle.evidence.specs.declared.door.Evidence.{Evidence}
+use Rattle.evidence.proofs.Unique.{evidence-one}
+use Rattle.probe.specs.Numbers.{answerRoom, reviewNumbers, writtenNumbers, readingNumbers}
 use Rattle.probe.specs.Promise.{ProbesReview, ProbesSchedule, ProbesRead, ProbesClose}
 
 -- words of 32 bits stand in the relation rooms
-pub probe-review-one : {commands lengths σ relation room answer ra ga aa rb gb ab : List ℕ} {n m : ℕ} → Words ra → Words rb
-    → ProbesReview commands lengths σ relation room answer ra ga aa n → ProbesReview commands lengths σ relation room answer rb gb ab m
-    → (n ≡ m) × (ra ≡ rb) × (ga ≡ gb) × (aa ≡ ab)
-probe-review-one {commands} {lengths} {σ} {relation} {room} {answer} wa wb A B =
+pub probe-review-one : {commands lengths σ relation generations evidence answer ra ga ea aa rb gb eb ab : List ℕ} {n m : ℕ} → Words ra → Words rb
+    → ProbesReview commands lengths σ relation generations evidence answer ra ga ea aa n → ProbesReview commands lengths σ relation generations evidence answer rb gb eb ab m
+    → (n ≡ m) × (ra ≡ rb) × (ga ≡ gb) × (ea ≡ eb) × (aa ≡ ab)
+probe-review-one {commands} {lengths} {σ} {relation} {generations} {evidence} {answer} wa wb A B =
     by-cases (decLt (length answer) answerRoom)
     (λ (h : length answer < answerRoom).
-    let (p, q, s, t) = A .refuses h in
-    let (p′, q′, s′, t′) = B .refuses h in
-    (p ∙ sym p′, q ∙ sym q′, s ∙ sym s′, t ∙ sym t′))
+    let (p, q, s, u, t) = A .refuses h in
+    let (p′, q′, s′, u′, t′) = B .refuses h in
+    (p ∙ sym p′, q ∙ sym q′, s ∙ sym s′, u ∙ sym u′, t ∙ sym t′))
     (λ (h : ¬ (length answer < answerRoom)).
     let (r, R, p, t) = A .found (omega arith) in
     let (r′, R′, p′, t′) = B .found (omega arith) in
-    let (e, q, s) = review-one commands lengths σ relation room r r′ wa wb R R′ in
-    (p ∙ ap number e ∙ sym p′, q, s, t ∙ ap (λ (z : Finding). over (findingNumbers z) answer) e ∙ sym t′))
+    let (e, q, s, u) = evidence-one commands lengths σ relation generations evidence r r′ wa wb R R′ in
+    (p ∙ ap (λ (z : Evidence). number (z .finding)) e ∙ sym p′, q, s, u, t ∙ ap (λ (z : Evidence). over (reviewNumbers z) answer) e ∙ sym t′))
 
 pub probe-schedule-one : {commands lengths room answer ra aa rb ab : List ℕ} {n m : ℕ}
     → ProbesSchedule commands lengths room answer ra aa n → ProbesSchedule commands lengths room answer rb ab m → (n ≡ m) × (ra ≡ rb) × (aa ≡ ab)

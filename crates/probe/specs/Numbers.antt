@@ -10,7 +10,7 @@ use Rattle.notation.specs.declared.reading.Reading.{Reading}
 use Rattle.replay.specs.declared.writer.Written.{Written}
 use Rattle.sheet.specs.Sheet.{mostKept, pair}
 use Rattle.sheet.specs.declared.Pair.{Pair}
-use Rattle.findings.specs.declared.finding.Finding.{Finding}
+use Rattle.evidence.specs.declared.door.Evidence.{Evidence}
 use Rattle.probe.specs.declared.counts.Counts.{Counts}
 
 -- an answer room has at least so many numbers
@@ -30,9 +30,9 @@ unfoldable pub pairNumbers : List Pair → List ℕ
 pairNumbers [] = []
 pairNumbers (p ∷ ps) = p .first ∷ p .second ∷ pairNumbers ps
 
--- the numbers that a review's finding is told by: its total stands third, and then 0 and the sheet's pairs
-abbrev pub findingNumbers : Finding → List ℕ
-findingNumbers r = toldNumbers (numbered (r .verdict)) (r .sheet .total) 0 ++ pairNumbers (r .sheet .pairs)
+-- the numbers that a review is told by: the total stands third, how many entries of evidence there are fourth, and then the sheet's pairs
+abbrev pub reviewNumbers : Evidence → List ℕ
+reviewNumbers r = toldNumbers (numbered (r .finding .verdict)) (r .finding .sheet .total) (r .entries) ++ pairNumbers (r .finding .sheet .pairs)
 
 -- those of a written schedule: its length stands third
 abbrev pub writtenNumbers : Written → List ℕ

@@ -15,16 +15,20 @@ use Rattle.notation.specs.Promise.{Read}
 use Rattle.notation.specs.declared.reading.Reading.{Reading}
 use Rattle.replay.specs.Doors.{WritesSchedule}
 use Rattle.replay.specs.declared.writer.Written.{Written}
-use Rattle.review.specs.Agreement.{Reviewed, number}
-use Rattle.findings.specs.declared.finding.Finding.{Finding}
-use Rattle.probe.specs.Numbers.{answerRoom, findingNumbers, writtenNumbers, readingNumbers}
+use Rattle.review.specs.Agreement.{number}
+use Rattle.evidence.specs.declared.door.Evidence.{Evidence}
+use Rattle.evidence.specs.Doors.{Evidenced}
+use Rattle.probe.specs.Numbers.{answerRoom, reviewNumbers, writtenNumbers, readingNumbers}
 
 -- The contract of `probe_review`.
-pub record ProbesReview (commands lengths schedule relation room answer relation′ room′ answer′ : List ℕ) (n : ℕ) : Type 0 where
+pub record ProbesReview (commands lengths schedule relation generations evidence answer relation′ generations′ evidence′ answer′ : List ℕ) (n : ℕ) : Type 0 where
   -- 14: a short answer room; nothing is touched
-  pub refuses : length answer < answerRoom → (n ≡ 14) × (relation′ ≡ relation) × (room′ ≡ room) × (answer′ ≡ answer)
-  -- else what the review found, of which its own promise leaves no choice; numbers after those are kept
-  pub found : answerRoom ≤ length answer → (r : Finding) × Reviewed commands lengths schedule relation room r relation′ room′ × (n ≡ number r) × (answer′ ≡ over (findingNumbers r) answer)
+  pub refuses : length answer < answerRoom
+      → (n ≡ 14) × (relation′ ≡ relation) × (generations′ ≡ generations) × (evidence′ ≡ evidence) × (answer′ ≡ answer)
+  -- else what the review with evidence answers, of which its own promise leaves no choice; numbers after those are kept
+  pub found : answerRoom ≤ length answer
+      → (r : Evidence) × Evidenced commands lengths schedule relation generations evidence r relation′ generations′ evidence′
+      × (n ≡ number (r .finding)) × (answer′ ≡ over (reviewNumbers r) answer)
 
 -- The contract of `probe_schedule`.
 pub record ProbesSchedule (commands lengths room answer room′ answer′ : List ℕ) (n : ℕ) : Type 0 where

@@ -7,15 +7,15 @@ use crate::answer::put_sheet;
 use crate::answer::put_told;
 use crate::counts::counts_of;
 use closing::close;
+use evidence::review_evidence;
 use notation::read;
 use notation::rest;
 use replay::write_schedule;
-use review::review;
 
 mod answer; // numbers into the answer room
 mod counts; // how many commands and threads a reading found
 
-// The verdict's number. `answer` gets its two places, the total, 0, and both numbers of each of the sheet's sixteen pairs.
+// The verdict's number. `answer` gets its two places, the total, how many numbers of evidence were written, and both numbers of each of the sheet's sixteen pairs.
 #[no_mangle]
 pub extern "C" fn probe_review(
     commands: &[u32],
@@ -23,18 +23,20 @@ pub extern "C" fn probe_review(
     schedule: &[u32],
     relation: &mut [u32],
     generations: &mut [u32],
+    evidence: &mut [u32],
     answer: &mut [u32],
 ) -> u32
-    ensures { λ n. ⌜ ProbesReview (now (commands .entry)) (now (lengths .entry)) (now (schedule .entry)) (now (relation .entry)) (now (generations .entry)) (now (answer .entry)) (now (relation .exit)) (now (generations .exit)) (now (answer .exit)) n ⌝ }
+    ensures { λ n. ⌜ ProbesReview (now (commands .entry)) (now (lengths .entry)) (now (schedule .entry)) (now (relation .entry)) (now (generations .entry)) (now (evidence .entry)) (now (answer .entry)) (now (relation .exit)) (now (generations .exit)) (now (evidence .exit)) (now (answer .exit)) n ⌝ }
 {
     if answer.len() < Answer::NUMBERS {
         return 14;
     }
-    let found = review(commands, lengths, schedule, relation, generations);
+    let shown = review_evidence(commands, lengths, schedule, relation, generations, evidence);
+    let found = shown.finding;
     let verdict = found.verdict;
     let sheet = found.sheet;
     let told = verdict.number();
-    put_told(answer, told, sheet.total, 0);
+    put_told(answer, told, sheet.total, shown.entries);
     put_sheet(answer, sheet);
     told.number
 }

@@ -1,12 +1,12 @@
 -- Which thread is picked, by the tests of the scan; and that no more is asked of the commands that go first than what is said of rows. Assumes nothing.
-use mathlib.Core.Path.{_≡_, refl, sym, ap, _∙_}
-use mathlib.Core.Bool.{Bool, true, false, cond, not, _&&_, _||_}
-use mathlib.Core.List.{List, []}
+use mathlib.Core.Path.{_≡_, refl, sym, _∙_}
+use mathlib.Core.Bool.{Bool, false, not, _&&_, _||_}
+use mathlib.Core.List.{List}
 use mathlib.Core.Logic.{⊎-elim}
 use Prim.Native.Nat.{ℕ, zero, suc, _+_, _≤_, _<_}
 use native.Mathlib.Omega.{arith}
-use lib.Dec.{eqb, ltb}
-use lib.ListN.{length, getD, set, length-set, List·getD-eq-default}
+use lib.Dec.{eqb}
+use lib.ListN.{length, set, length-set, List·getD-eq-default}
 use lib.Seq.{getD-set-same, getD-set-other}
 use borrow.Author.Count.{below-none, below-more}
 use borrow.Author.Tests.{lt-ltb, le-ltb}
@@ -19,7 +19,7 @@ use Rattle.replay.specs.declared.state.Replay.{Replay}
 use Rattle.replay.specs.State.{start, ranSoFar}
 use Rattle.replay.specs.Step.{allowed, command, stepped}
 use Rattle.replay.specs.Ending.{lowestAllowed}
-use Rattle.replay.specs.Writer.{goesOn, stepping, scheduleBy, picked, lowestPicked, pickedFirst, goesFirst, apartFrom, apartSchedule, PutsApart}
+use Rattle.replay.specs.Writer.{stepping, scheduleBy, picked, lowestPicked, pickedFirst, goesFirst, apartFrom, apartSchedule, PutsApart}
 use Rattle.replay.proofs.Steps.{may, next-row}
 
 -- ---- the tests of the scan

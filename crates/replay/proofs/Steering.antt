@@ -1,9 +1,9 @@
 -- The schedule that lets picked commands go first runs them as far as they go, and then goes on; or it ends at a mismatch. Assumes nothing.
-use mathlib.Core.Path.{_≡_, refl, sym, ap, _∙_, subst}
+use mathlib.Core.Path.{_≡_, refl, sym, ap, _∙_}
 use mathlib.Core.Logic.{_⊎_, inl, inr, ⊎-elim, by-cases, _≢_}
-use mathlib.Core.Bool.{Bool, true, false, cond, _&&_}
+use mathlib.Core.Bool.{Bool, true, false, cond}
 use mathlib.Core.List.{List, [], _∷_, reverse, reverseAux}
-use Prim.Native.Nat.{ℕ, zero, suc, _+_, _≤_, _<_}
+use Prim.Native.Nat.{ℕ, zero, suc, _+_, _≤_}
 use native.Mathlib.Omega.{arith}
 use native.Mathlib.Decide.{ℕ-discrete}
 use lib.Dec.{ltb}
@@ -26,7 +26,7 @@ use Rattle.replay.proofs.Programs as programs
 use Rattle.replay.proofs.Few.{steps-few}
 use Rattle.replay.proofs.Ties.{Stands, stands-start, allowed-steps, steps-allowed, command-is}
 use Rattle.replay.proofs.Tied.{Outcome, ran, mismatched, outcome}
-use Rattle.replay.proofs.Writing.{picks, picks-not}
+use Rattle.replay.proofs.Writing.{picks}
 use Rattle.replay.proofs.Precede.{goes-aux}
 use Rattle.schedules.specs.Shows.{Drains}
 

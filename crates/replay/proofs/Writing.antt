@@ -22,7 +22,7 @@ use Rattle.replay.specs.State.{start}
 use Rattle.replay.specs.Step.{allowed, stepped}
 use Rattle.replay.specs.Ending.{lowestAllowed}
 use Rattle.replay.specs.Program.{program}
-use Rattle.replay.specs.Writer.{goesOn, stepping, scheduleBy, schedule, FilledBy, picked, lowestPicked, pickedFirst, apartFrom, apartSchedule}
+use Rattle.replay.specs.Writer.{goesOn, stepping, scheduleBy, schedule, FilledBy, picked, lowestPicked, pickedFirst}
 use Rattle.replay.specs.Schedules.{Complete}
 use Rattle.replay.proofs.Programs as programs
 use Rattle.replay.proofs.Few.{steps-few}

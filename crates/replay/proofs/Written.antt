@@ -2,7 +2,7 @@
 use mathlib.Core.Path.{_≡_, refl, sym, ap, _∙_, subst}
 use mathlib.Core.Bool.{Bool}
 use mathlib.Core.List.{List, []}
-use Prim.Native.Nat.{ℕ, min, _<_}
+use Prim.Native.Nat.{ℕ, min}
 use native.Mathlib.Omega.{arith}
 use lib.ListN.{length}
 use Rattle.tables.specs.Limits.{mostRows}
@@ -12,7 +12,7 @@ use Rattle.tables.specs.Verdicts.{numbered}
 use Rattle.tables.specs.declared.verdict.Told.{Told}
 use Rattle.relation.specs.Table.{related}
 use Rattle.replay.specs.declared.writer.Written.{Written}
-use Rattle.replay.specs.Writer.{schedule, firstSchedule, apartSchedule, goesFirst, apartFrom, PutsApart, FilledBy}
+use Rattle.replay.specs.Writer.{schedule, firstSchedule, goesFirst, apartFrom, PutsApart, FilledBy}
 use Rattle.replay.specs.Doors.{Writes, WritesSchedule, WritesApart}
 use Rattle.replay.specs.Schedules.{Complete}
 use Rattle.replay.proofs.Refusals.{unwritten-keeps}

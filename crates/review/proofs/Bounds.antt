@@ -15,6 +15,7 @@ use Rattle.tables.specs.Rows.{rows}
 use Rattle.tables.specs.Rules.{Keeps, checked}
 use Rattle.tables.specs.Verdicts.{tell, numbered}
 use Rattle.tables.specs.declared.verdict.Told.{Told}
+use Rattle.tables.specs.declared.verdict.Verdict.{Verdict}
 use Rattle.tables.proofs.Rules.{passes-zero}
 use Rattle.relation.specs.Table.{width, words}
 use Rattle.relation.proofs.Truth.{clashing, split}
@@ -121,7 +122,7 @@ module _ (commands lengths σ : List ℕ) (relation room : ℕ) where
       or-either P (refused commands lengths relation room) _ r
       (λ z. let K = admitted commands lengths relation room z .keeps in or-either P (judged lengths (played commands lengths σ)) _ (j K) (λ _. f K))
 
-  refused-placed : Placed (refused commands lengths relation room)
+  pub refused-placed : Placed (refused commands lengths relation room)
   unfolding refused
   refused-placed =
       or-either Placed (checked commands lengths) _ (checked-placed commands lengths)
@@ -177,6 +178,10 @@ Fits s = (s .total ≤ mostRows * mostRows) × ((k : ℕ) → k < mostKept → L
 empty-fits : Fits (sheetOf [])
 unfolding sheetOf
 empty-fits = (omega arith, firsts-low mostKept [] (λ k l. none-low))
+
+-- a verdict without pairs
+pub bare-small : (v : Verdict) → Placed (numbered v) → Small (record { verdict = v; sheet = sheetOf [] })
+bare-small v P = record { place = P .place; also = P .also; total = empty-fits .0; pairs = empty-fits .1 }
 
 pub finding-small : {commands lengths σ relation room : List ℕ} {r : Finding} {relation′ room′ : List ℕ}
     → Reviewed commands lengths σ relation room r relation′ room′ → Small r

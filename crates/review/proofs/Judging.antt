@@ -1,14 +1,12 @@
 -- Demand 3: what the verdict from one schedule says of all legal complete schedules. Assumes nothing.
 use mathlib.Core.Path.{_≡_, refl, sym, ap, _∙_, subst}
-use mathlib.Core.Logic.{_⊎_, inl, inr, ⊎-elim, by-cases, _↔_, _≢_}
+use mathlib.Core.Logic.{_⊎_, inl, inr, ⊎-elim, _↔_, _≢_}
 use mathlib.Core.Bool.{Bool, true, false, cond}
 use mathlib.Core.List.{List, [], _∷_, reverse, reverse-reverse}
 use Prim.Native.Nat.{ℕ, _-_, _≤_, _<_}
 use native.Mathlib.Omega.{arith}
-use native.Mathlib.Decide.{decLt}
 use lib.Dec.{ltb}
 use lib.ListN.{length}
-use borrow.Author.Tests.{le-ltb}
 use Rattle.tables.specs.Limits.{barriers}
 use Rattle.tables.specs.Rows.{rows}
 use Rattle.tables.specs.Rules.{Keeps}
@@ -16,7 +14,7 @@ use Rattle.tables.specs.Verdicts.{tell, numbered}
 use Rattle.tables.specs.declared.verdict.Told.{Told}
 use Rattle.tables.specs.declared.verdict.Verdict.{Verdict}
 use Rattle.tables.specs.declared.verdict.Verdict.the-variants as verdict
-use Rattle.tables.proofs.Lowest.{lowest-hit, lowest-miss}
+use Rattle.tables.proofs.Lowest.{lowest-hit}
 use Rattle.relation.proofs.Truth.{clashing}
 use Rattle.schedules.specs.Machine as machine
 use Rattle.schedules.specs.Machine.{Program}
@@ -35,7 +33,7 @@ use Rattle.replay.specs.Program.{program}
 use Rattle.faults.specs.Faults.{conflict, race, faults}
 use Rattle.findings.specs.Findings.{firstPair, faultTold}
 use Rattle.review.specs.Judge.{generations, reaches}
-use Rattle.replay.specs.Schedules.{stateAfter, Stops, Complete, stopped, mismatched, Clean, Agree, Disagree, unclean}
+use Rattle.replay.specs.Schedules.{stateAfter, Complete, stopped, mismatched, Clean, Agree, Disagree, unclean}
 use Rattle.replay.specs.Schedules as schedules
 use Rattle.review.specs.Agreement.{Judges}
 use Rattle.replay.proofs.Judged.{stops-by, clean-by}

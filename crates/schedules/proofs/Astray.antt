@@ -1,18 +1,15 @@
 -- A log that has run what c does not reach, as far as it goes, and not c: it has run all of that, or strays from the generations. Assumes nothing.
-use mathlib.Core.Path.{_≡_, refl, sym, ap, _∙_}
-use mathlib.Core.Logic.{_⊎_, inl, inr, ⊎-elim, by-cases, Dec·and, _≢_}
-use mathlib.Core.Bool.{Bool, true, false, Bool-discrete}
-use mathlib.Core.List.{List, [], _∷_}
-use Prim.Native.Nat.{ℕ, suc, _≤_, _<_}
-use native.Mathlib.Omega.{arith}
-use native.Mathlib.Decide.{ℕ-discrete, decLe}
-use Rattle.relation.specs.Chains.{here}
+use mathlib.Core.Path.{_≡_, refl}
+use mathlib.Core.Logic.{_⊎_, inl, inr, ⊎-elim, by-cases, _≢_}
+use mathlib.Core.Bool.{Bool, true, false}
+use mathlib.Core.List.{List}
+use Prim.Native.Nat.{ℕ, _<_}
+use native.Mathlib.Decide.{ℕ-discrete}
 use Rattle.relation.proofs.Truth.{clashing, split, isnt}
-use Rattle.schedules.specs.Machine.{Program, Lawful, State, Member, state, Ready}
-use Rattle.schedules.specs.Order.{Edge, along, Reaches, Waits, Reuse, NoReuse}
+use Rattle.schedules.specs.Machine.{Program, Lawful, State, state}
+use Rattle.schedules.specs.Order.{Reaches, Reuse, NoReuse}
 use Rattle.schedules.proofs.Tally.{find}
 use Rattle.schedules.proofs.Logs.{Allowed, LegalLog, CleanLog}
-use Rattle.schedules.proofs.Step.{ran-other}
 use Rattle.schedules.proofs.Good.{good}
 use Rattle.schedules.proofs.Final.{Final, final}
 use Rattle.schedules.proofs.Agree.{Agrees, catches-up}

@@ -1,19 +1,18 @@
 -- The claims of specs/Shows. Assumes nothing.
 use mathlib.Core.Path.{_≡_, sym, ap, _∙_}
 use mathlib.Core.Logic.{_⊎_, inl, inr, _≢_}
-use mathlib.Core.Bool.{Bool, true, false}
-use mathlib.Core.List.{List, _∷_}
+use mathlib.Core.Bool.{Bool, true}
+use mathlib.Core.List.{List}
 use Prim.Native.Nat.{ℕ, _<_}
 use Rattle.relation.proofs.Truth.{clashing}
-use Rattle.schedules.specs.Machine.{Program, Lawful, state}
-use Rattle.schedules.specs.Threads.{Threads, at, commands, after, gens, Legal, Complete, stopped, mismatched, Clean}
-use Rattle.schedules.specs.Order.{Goes}
+use Rattle.schedules.specs.Machine.{Program, Lawful}
+use Rattle.schedules.specs.Threads.{Threads, commands, after, gens, Legal, Complete, stopped, mismatched, Clean}
 use Rattle.schedules.proofs.Logs.{Allowed}
 use Rattle.schedules.proofs.Tests.{not-matching}
 use Rattle.schedules.proofs.Along.{gen-then}
 use Rattle.schedules.proofs.Threads.{stand, legal-log, must, goes-commands, clean-log}
 use Rattle.schedules.proofs.Theorems.{all-ran, sound}
-use Rattle.schedules.specs.Shows.{Avoids, Drains, ShowsReuse, ShowsFirst}
+use Rattle.schedules.specs.Shows.{Drains, ShowsReuse, ShowsFirst}
 use Rattle.schedules.proofs.Astray.{astray, not-c, first-of}
 
 module _ {P : Program} (W : Lawful P) (H : Threads P) where

@@ -2,22 +2,23 @@
 use mathlib.Core.Path.{_≡_, refl, sym, ap, ap₂, _∙_}
 use mathlib.Core.Logic.{by-cases}
 use mathlib.Core.List.{List, [], _∷_, _++_, append-assoc, append-nil}
-use Prim.Native.Nat.{ℕ, zero, suc, _+_, _≤_, _<_}
+use Prim.Native.Nat.{ℕ, zero, suc, _+_, _≤_, _<_, min}
 use native.Mathlib.Decide.{decLt}
 use native.Mathlib.Omega.{arith}
-use lib.ListN.{length, set, length-append}
+use native.Mathlib.Numerals.{unary-clauses}
+use lib.ListN.{length, set, take, length-append}
 use borrow.Author.Tests.{lt-ltb, le-ltb}
 use Rattle.sheet.specs.declared.Pair.{Pair}
 use Rattle.sheet.specs.declared.Sheet.{Sheet}
-use Rattle.sheet.specs.Sheet.{mostKept, mostCounted, firsts, sheetOf, added, addAll}
+use Rattle.sheet.specs.Sheet.{mostKept, mostCounted, firsts, sheetOf, keptPairs, added, addAll}
 
 -- ---- one pair more
 
-kept : (n : ℕ) (ps : List Pair) (p : Pair) → length ps < n → set (firsts n ps) (length ps) p ≡ firsts n (ps ++ p ∷ [])
+kept-one : (n : ℕ) (ps : List Pair) (p : Pair) → length ps < n → set (firsts n ps) (length ps) p ≡ firsts n (ps ++ p ∷ [])
 unfolding firsts
-kept zero ps p h = absurd (omega arith)
-kept (suc n) [] p h = refl
-kept (suc n) (q ∷ ps) p h = ap (λ (l : List Pair). q ∷ l) (kept n ps p (omega arith))
+kept-one zero ps p h = absurd (omega arith)
+kept-one (suc n) [] p h = refl
+kept-one (suc n) (q ∷ ps) p h = ap (λ (l : List Pair). q ∷ l) (kept-one n ps p (omega arith))
 
 full : (n : ℕ) (ps qs : List Pair) → n ≤ length ps → firsts n ps ≡ firsts n (ps ++ qs)
 unfolding firsts
@@ -29,7 +30,7 @@ added-sheet : (ps : List Pair) (p : Pair) → length ps < mostCounted → added 
 unfolding added sheetOf
 added-sheet ps p l =
     ap₂ (λ (l : List Pair) (n : ℕ). record { pairs = l; total = n })
-    (by-cases (decLt (length ps) mostKept) (λ (h : length ps < mostKept). rw (lt-ltb _ _ h) (kept mostKept ps p h))
+    (by-cases (decLt (length ps) mostKept) (λ (h : length ps < mostKept). rw (lt-ltb _ _ h) (kept-one mostKept ps p h))
     (λ (h : ¬ (length ps < mostKept)). rw (le-ltb (length ps) mostKept (omega arith)) (full mostKept ps (p ∷ []) (omega arith))))
     (omega (arith, length-append ps (p ∷ [])))
 
@@ -66,3 +67,26 @@ addAll-total s (p ∷ ps) = omega (arith, addAll-total (added s p) ps)
 pub sheet-total : (ps : List Pair) → sheetOf ps .total ≡ length ps
 unfolding sheetOf
 sheet-total ps = refl
+
+-- ---- the pairs kept are the first sixteen of the list
+
+firsts-long : (n : ℕ) (ps : List Pair) → length (firsts n ps) ≡ n
+unfolding firsts
+firsts-long zero ps = refl
+firsts-long (suc n) [] = ap suc (firsts-long n [])
+firsts-long (suc n) (p ∷ ps) = ap suc (firsts-long n ps)
+
+pub sheet-long : (ps : List Pair) → length (sheetOf ps .pairs) ≡ mostKept
+unfolding sheetOf
+sheet-long ps = firsts-long mostKept ps
+
+kept-firsts : (n : ℕ) (ps : List Pair) → take (min (length ps) n) (firsts n ps) ≡ take n ps
+unfolding firsts
+kept-firsts zero [] = refl
+kept-firsts zero (p ∷ ps) = simp unary-clauses
+kept-firsts (suc n) [] = simp unary-clauses
+kept-firsts (suc n) (p ∷ ps) = simp unary-clauses (ap (λ (l : List Pair). p ∷ l) (kept-firsts n ps))
+
+pub kept-are : (ps : List Pair) → keptPairs (sheetOf ps) ≡ take mostKept ps
+unfolding sheetOf
+kept-are ps = kept-firsts mostKept ps

@@ -3,7 +3,7 @@ use mathlib.Core.Bool.{cond}
 use mathlib.Core.List.{List, [], _∷_}
 use Prim.Native.Nat.{ℕ, zero, suc, _+_, _-_, _^_, min}
 use lib.Dec.{ltb}
-use lib.ListN.{length, set}
+use lib.ListN.{length, set, take, getD}
 use Rattle.sheet.specs.declared.Pair.{Pair}
 use Rattle.sheet.specs.declared.Sheet.{Sheet}
 
@@ -26,6 +26,14 @@ firsts (suc n) (p ∷ ps) = p ∷ firsts n ps
 
 unfoldable pub sheetOf : List Pair → Sheet
 sheetOf ps = record { pairs = firsts mostKept ps; total = length ps }
+
+-- the pairs that a sheet keeps: as many as the smaller of its total and sixteen
+abbrev pub keptPairs : Sheet → List Pair
+keptPairs s = take (min (s .total) mostKept) (s .pairs)
+
+-- the first of them
+abbrev pub firstKept : Sheet → Pair
+firstKept s = getD (s .pairs) 0 (pair 0 0)
 
 -- a total with one pair more; at the largest number of its type it stays
 abbrev pub counted : ℕ → ℕ

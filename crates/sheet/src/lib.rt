@@ -1,7 +1,8 @@
 // The fault sheet: the first pairs that are found are kept, and later ones only raise the total.
 ghost use mathlib.Core.Path.{_≡_};
 ghost use mathlib.Core.List.{[]};
-ghost use Rattle.sheet.specs.Sheet.{sheetOf, counted, added};
+ghost use Prim.Native.Nat.{min};
+ghost use Rattle.sheet.specs.Sheet.{mostKept, sheetOf, counted, added};
 
 pub struct Pair {
     pub first: usize,
@@ -21,6 +22,16 @@ fn one_more(total: usize) -> usize
         return total + 1;
     }
     total
+}
+
+// So many pairs of a total are kept.
+pub fn kept(total: usize) -> usize
+    ensures { λ r. ⌜ r ≡ min total mostKept ⌝ }
+{
+    if total < Sheet::KEPT {
+        return total;
+    }
+    Sheet::KEPT
 }
 
 impl Sheet {

@@ -2,27 +2,27 @@
 use native.Mathlib.Omega.{arith}
 use borrow.Author.Needs.{needs}
 use Rattle.probe.specs.Numbers.{answerRoom}
-use Rattle.probe.proofs.Fitting.{finding-counted, pairs-counted}
+use Rattle.probe.proofs.Fitting.{review-counted, pairs-counted}
 use Rattle.probe.proofs.Telling.{review-short, review-told}
 use Rattle.probe.proofs.probe_review.Statement.{statement}
 use Rattle.probe.proofs.probe_review.Tie as tie
 
 returns : tie.Need-returns
 unfolding answerRoom
-returns c = review-short _ _ _ _ _ _ (omega (arith, c .if1 .taken))
+returns c = review-short _ _ _ _ _ _ _ (omega (arith, c .if1 .taken))
 
 put-told-requires : tie.Need-put-told-requires
 put-told-requires c κs =
     let n = c .before in
-    let r = n .before .before .before .before .before .before in
-    (omega (arith, r .before .before .before .if1 .left), rw (n .number .ensures) (finding-counted (r .review .ensures)))
+    let r = n .before .before .before .before .before .before .before .before .before in
+    (omega (arith, r .before .before .before .before .if1 .left), rw (n .number .ensures) (review-counted (r .review-evidence .ensures)))
 
 put-sheet-requires : tie.Need-put-sheet-requires
 unfolding answerRoom
 put-sheet-requires c κs =
     let p = c .before .before .before in
-    let r = p .before .before .before .before .before .before .before .before in
-    (omega (arith, p .put-told .kept .0, r .before .before .before .if1 .left), pairs-counted (r .review .ensures))
+    let r = p .before .before .before .before .before .before .before .before .before .before .before in
+    (omega (arith, p .put-told .kept .0, r .before .before .before .before .if1 .left), pairs-counted (r .review-evidence .ensures))
 
 returns-2 : tie.Need-returns-2
 unfolding answerRoom
@@ -30,8 +30,8 @@ returns-2 c =
     let s = c .before .before in
     let p = s .before .before .before .before in
     let n = p .before .before in
-    let r = n .before .before .before .before .before .before in
-    review-told _ _ _ _ _ _ (omega (arith, r .before .before .before .if1 .left)) (r .review .ensures) (n .number .ensures) (p .put-told .ensures) (s .put-sheet .ensures)
+    let r = n .before .before .before .before .before .before .before .before .before in
+    review-told _ _ _ _ _ _ _ (omega (arith, r .before .before .before .before .if1 .left)) (r .review-evidence .ensures) (n .number .ensures) (p .put-told .ensures) (s .put-sheet .ensures)
 
 pub probe-review-spec : {M : Type 1} → statement M
 probe-review-spec =
@@ -42,6 +42,7 @@ probe-review-spec =
     (λ c κs. search needs)
     put-told-requires
     put-sheet-requires
+    (λ c. search needs)
     (λ c. search needs)
     (λ c. search needs)
     (λ c. search needs)

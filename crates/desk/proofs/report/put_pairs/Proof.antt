@@ -30,7 +30,7 @@ loop-again c =
     let l = c .before .before .before .before .before .before in
     let s = l .before .before .before in
     let i<n = c .before .before .before .before .before .loop-test .taken in (
-      rw (pairs-next (s .args .t3 .pairs) (l .loop .i) (pair 0 0) (omega (arith, i<n, l .before .least .ensures, l .loop .inv .2)))
+      rw (pairs-next (s .args .t3 .pairs) (l .loop .i) (pair 0 0) (omega (arith, i<n, l .before .kept .ensures, l .loop .inv .2)))
           (puts-on (l .loop .inv .0) (c .before .before .put-two .ensures)),
       omega (arith, i<n),
       l .loop .inv .2,
@@ -41,7 +41,7 @@ unfolding mostKept
 returns c =
     let l = c .before in
     let s = l .before .before .before in
-    let e : l .loop .i ≡ min (s .args .t3 .total) 16 = omega (arith, c .loop-test .left, l .loop .inv .1, l .before .least .ensures) in
+    let e : l .loop .i ≡ min (s .args .t3 .total) 16 = omega (arith, c .loop-test .left, l .loop .inv .1, l .before .kept .ensures) in
     rw e at (l .loop .inv .0)
 
 pub put-pairs-spec : {M : Type 1} → statement M

@@ -2,6 +2,7 @@
 use mathlib.Core.Path.{_∙_}
 use native.Mathlib.Omega.{arith}
 use borrow.Author.Needs.{needs}
+use Rattle.tables.specs.Limits.{mostRows}
 use Rattle.replay.proofs.Refusals.{number-is, said-zero}
 use Rattle.evidence.proofs.Shown.{showable}
 use Rattle.evidence.proofs.Doors.{evidenced-refused, evidenced-short, evidenced, few-rows}
@@ -17,6 +18,7 @@ returns c =
     (evidenced-refused _ _ _ _ _ _ (k .result) (k .ensures) (λ e. i .if1 .taken (number-is (k .result) (n .number .ensures) ∙ e)))
 
 mul-if2 : tie.Need-mul-if2
+unfolding mostRows
 mul-if2 c =
     let n = c .before .before in
     let k = n .before .refuse in

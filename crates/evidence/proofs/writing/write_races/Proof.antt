@@ -1,13 +1,15 @@
 -- `write_races` meets its contract: the room has both ways of the pairs passed, and beyond them is as it was. Assumes nothing.
 use Prim.Native.Nat.{_-_}
-use native.Mathlib.Omega.{arith}
 use borrow.Author.Needs.{needs}
+use Rattle.tables.specs.Limits.{mostRows}
+use Rattle.tables.specs.Rows.{rows}
+use Rattle.relation.specs.Table.{related}
 use Rattle.evidence.proofs.Putting.{Racing, racing-start, racing-long, racing-end, racing-low, racing-fits, half-fits, racing-more}
 use Rattle.evidence.proofs.writing.write_races.Statement.{statement}
 use Rattle.evidence.proofs.writing.write_races.Tie as tie
 
 abbrev Inv-loop : tie.InvT-loop
-Inv-loop commands lengths relation n room₀ pairs at₀ k₀ room at k = Racing commands lengths relation pairs n room₀ room at k
+Inv-loop commands lengths relation n room₀ pairs at₀ k₀ room at k = Racing commands lengths (related relation (rows commands)) pairs n room₀ room at k
 
 abbrev μ-loop : tie.MeasureT-loop
 μ-loop commands lengths relation n room₀ pairs at₀ k₀ room at k = n - k
@@ -16,12 +18,14 @@ loop-holds : tie.Need-loop-holds Inv-loop μ-loop
 loop-holds c = racing-start _ _ _ _ _ _ (c .before .before .before .before .pre)
 
 cast-x : tie.Need-cast-x Inv-loop μ-loop
+unfolding mostRows
 cast-x c =
     let t = c .before .before in
     let l = racing-low _ _ _ _ _ _ (t .before .loop .inv) (t .loop-test .taken) .0 in
     search needs
 
 cast-y : tie.Need-cast-y Inv-loop μ-loop
+unfolding mostRows
 cast-y c =
     let t = c .before .before .before in
     let l = racing-low _ _ _ _ _ _ (t .before .loop .inv) (t .loop-test .taken) .1 in

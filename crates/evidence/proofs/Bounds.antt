@@ -1,0 +1,98 @@
+-- How large the numbers of an answer with evidence are. Assumes nothing.
+use mathlib.Core.Path.{_≡_, sym, ap, _∙_, subst}
+use mathlib.Core.Logic.{by-cases, ⊎-elim, _≢_}
+use mathlib.Core.Bool.{Bool, true, false, cond}
+use mathlib.Core.List.{List}
+use Prim.Native.Nat.{ℕ, _*_, _≤_, min}
+use native.Mathlib.Decide.{ℕ-discrete}
+use native.Mathlib.Nat.{mul-le-mul}
+use native.Mathlib.Omega.{arith}
+use lib.Dec.{ltb}
+use lib.ListN.{length, length-take}
+use borrow.Author.Tests.{eq-eqb}
+use Rattle.tables.specs.Limits.{mostRows}
+use Rattle.tables.specs.Rows.{rows}
+use Rattle.tables.specs.Verdicts.{tell}
+use Rattle.tables.specs.declared.verdict.Told.{Told}
+use Rattle.relation.proofs.Truth.{split}
+use Rattle.sheet.specs.declared.Pair.{Pair}
+use Rattle.sheet.specs.declared.Sheet.{Sheet}
+use Rattle.sheet.specs.Sheet.{mostKept, sheetOf, keptPairs, firstKept}
+use Rattle.sheet.proofs.Sheets.{sheet-long}
+use Rattle.replay.proofs.Refusals.{or-either}
+use Rattle.replay.proofs.Places.{Placed, placed}
+use Rattle.rooms.specs.Refusals.{refused}
+use Rattle.rooms.proofs.Refusals.{admitted}
+use Rattle.review.specs.Judge.{reaches, fills}
+use Rattle.review.specs.Agreement.{number}
+use Rattle.review.proofs.Bounds.{Small, finding-small, bare-small, refused-placed}
+use Rattle.evidence.specs.declared.door.Evidence.{Evidence}
+use Rattle.evidence.specs.Evidence.{against, evidenceOf}
+use Rattle.evidence.specs.Doors.{evidenceRoom, refusedShowing, Evidenced}
+use Rattle.evidence.proofs.Putting.{apart-few}
+use Rattle.evidence.proofs.Doors.{showing-passes}
+
+module _ {commands lengths σ relation generations room : List ℕ} {r : Evidence} {relation′ generations′ room′ : List ℕ}
+    (E : Evidenced commands lengths σ relation generations room r relation′ generations′ room′) where
+  abbrev all : Told
+  all = refusedShowing commands lengths (length relation) (length generations) (length room)
+
+  short-placed : (b : Bool) → Placed (cond b (tell 4 4 0) (tell 0 0 0))
+  unfolding mostRows
+  short-placed true = placed 4 4 (omega arith)
+  short-placed false = placed 0 0 (omega arith)
+
+  all-placed : Placed all
+  unfolding refusedShowing
+  all-placed =
+      or-either Placed (refused commands lengths (length relation) (length generations)) _ (refused-placed commands lengths σ (length relation) (length generations))
+      (λ _. short-placed (ltb (length room) (evidenceRoom (rows commands))))
+
+  pub evidence-small : Small (r .finding)
+  evidence-small =
+      by-cases (ℕ-discrete (all .number) 0) (λ (z : all .number ≡ 0). finding-small (E .reviewed z))
+      (λ (n : all .number ≢ 0).
+      let (e, U) = E .refused n in
+      subst (λ (s : Sheet). Small (record { verdict = r .finding .verdict; sheet = s })) (sym (U .sheet)) (bare-small (r .finding .verdict) (subst Placed (sym e) all-placed)))
+
+  pub evidence-sheet : length (r .finding .sheet .pairs) ≡ mostKept
+  evidence-sheet =
+      by-cases (ℕ-discrete (all .number) 0)
+      (λ (z : all .number ≡ 0).
+      let R = E .reviewed z in
+      ⊎-elim (λ (t : fills (number (r .finding)) ≡ true). is _ (R .demand₂ .sheet t)) (λ (f : fills (number (r .finding)) ≡ false). is _ (R .demand₁ .empty f))
+      (split (fills (number (r .finding)))))
+      (λ (n : all .number ≢ 0). is _ (E .refused n .1 .sheet))
+    where
+      is : (ps : List Pair) → r .finding .sheet ≡ sheetOf ps → length (r .finding .sheet .pairs) ≡ mostKept
+      is ps e = ap (λ (s : Sheet). length (s .pairs)) e ∙ sheet-long ps
+
+  -- no more than a room for the longest tables has
+  module _ (z : all .number ≡ 0) where
+    few : rows commands ≤ mostRows
+    few = admitted commands lengths (length relation) (length generations) (showing-passes commands lengths (length relation) (length generations) (length room) z) .keeps .few-rows
+
+    ten-few : number (r .finding) ≡ 10 → r .entries ≤ rows commands
+    unfolding evidenceOf
+    ten-few e =
+        let p = firstKept (r .finding .sheet) in
+        let q : r .entries ≡ length (against commands lengths (reaches commands lengths σ) p) = E .holds z .written .long ∙ rw (eq-eqb (number (r .finding)) 10 e) in
+        omega (arith, q, apart-few commands lengths (reaches commands lengths σ) (p .first) (p .second))
+
+    eleven-few : number (r .finding) ≡ 11 → r .entries ≤ evidenceRoom mostRows
+    unfolding mostKept
+    eleven-few e =
+        let s = r .finding .sheet in
+        let k : length (keptPairs s) ≤ 16 = omega (arith, length-take (min (s .total) mostKept) (s .pairs)) in
+        let m : length (keptPairs s) * rows commands ≤ 16 * mostRows = mul-le-mul k few in
+        omega (arith, E .holds z .count e, m)
+
+    passed-few : r .entries ≤ evidenceRoom mostRows
+    passed-few =
+        by-cases (ℕ-discrete (number (r .finding)) 10) (λ (e : number (r .finding) ≡ 10). omega (arith, ten-few e, few))
+        (λ (n : number (r .finding) ≢ 10).
+        by-cases (ℕ-discrete (number (r .finding)) 11) eleven-few
+        (λ (m : number (r .finding) ≢ 11). omega (arith, E .holds z .nothing n m .0)))
+
+  pub entries-few : r .entries ≤ evidenceRoom mostRows
+  entries-few = by-cases (ℕ-discrete (all .number) 0) passed-few (λ (n : all .number ≢ 0). omega (arith, E .refused n .1 .entries))
