@@ -1,15 +1,15 @@
 /*
  * The review of document 01 as one writes it in C from the page: tables, replay, edges, Warshall's closing by whole words, then every pair for
- * faults. It is neither slow on purpose nor clever, as the benchmark compares the archive with it. tests/reference.c is another program, slower and
+ * faults, and the schedules that show them. It is neither slow on purpose nor clever, as the benchmark compares the archive with it. tests/reference.c is another program, slower and
  * simpler, to which the tests hold the archives.
  */
 #include <string.h>
 
 #include "plain.h"
 
-enum { ROWS = 512, THREADS = 64, BARRIERS = 16, LAST_ADDRESS = 4095, LAST_COUNT = 1024, KEPT = 16, ANSWER = 36 };
+enum { ROWS = 512, THREADS = 64, BARRIERS = 16, LAST_ADDRESS = 4095, LAST_COUNT = 1024, KEPT = 16, ANSWER = 36, NONE = ROWS };
 enum { READ, WRITE, ARRIVE, SYNC };
-enum { P, Q, TOTAL, PAIRS = 4 }; /* places of the answer */
+enum { P, Q, TOTAL, ENTRIES, PAIRS }; /* places of the answer */
 
 /* What the parts of one review share. The generations are copied to the room that was lent only when both rooms are to be filled. */
 struct review {
@@ -47,7 +47,7 @@ static int keeps_rules(const uint32_t *row)
     return (row[0] == ARRIVE || row[0] == SYNC) && row[1] < BARRIERS && row[2] >= 1 && row[2] <= LAST_COUNT;
 }
 
-static uint32_t check_tables(struct review *review, size_t numbers, size_t relation_len, size_t generations_len)
+static uint32_t check_tables(struct review *review, size_t numbers)
 {
     if (numbers % 3 != 0 || review->rows > ROWS)
         return verdict(review, 1, 0);
@@ -61,10 +61,17 @@ static uint32_t check_tables(struct review *review, size_t numbers, size_t relat
     for (size_t c = 0; c < review->rows; c++)
         if (!keeps_rules(review->commands + 3 * c))
             return verdict(review, 3, c);
+    return 0;
+}
+
+static uint32_t check_rooms(struct review *review, size_t relation_len, size_t generations_len, size_t evidence_len)
+{
     if (relation_len < review->rows * review->width)
         return verdict(review, 4, 0);
     if (generations_len < review->rows)
         return verdict(review, 4, 1);
+    if (evidence_len < 2 * KEPT * review->rows)
+        return verdict(review, 4, 4);
     return 0;
 }
 
@@ -247,11 +254,72 @@ static uint32_t find_faults(struct review *review)
     return number;
 }
 
+/* ---- evidence for 10 and 11 */
+
+/* Each thread goes on as far as it can, but not to a command that `held` reaches, until none can. Answers whether no step mismatched. */
+static int run_on(struct review *review, struct state *state, size_t held, uint32_t *room, size_t *n)
+{
+    int moved = 1;
+    while (moved) {
+        moved = 0;
+        for (uint32_t t = 0; t < review->threads; t++)
+            while (is_allowed(review, state, t) && (held == NONE || !reaches(review, held, state->next[t]))) {
+                moved = 1;
+                room[(*n)++] = t;
+                if (!step(review, state, t))
+                    return 0;
+            }
+    }
+    return 1;
+}
+
+/* A schedule in which `late` and all that it reaches is held back until nothing else can run, and `early` comes before it; answers its length. */
+static size_t write_apart(struct review *review, size_t late, size_t early, uint32_t *room)
+{
+    struct state state;
+    uint32_t t = review->thread_of[early];
+    size_t n = 0;
+    start(review, &state);
+    if (!run_on(review, &state, late, room, &n))
+        return n;
+    if (is_allowed(review, &state, t) && state.next[t] == early) {
+        room[n++] = t;
+        if (!step(review, &state, t))
+            return n;
+    }
+    run_on(review, &state, NONE, room, &n);
+    return n;
+}
+
+/* Answers how many entries. The generations were copied before, so that the steps may write over them. */
+static size_t write_evidence(struct review *review, uint32_t number, uint32_t *room)
+{
+    const uint32_t *pairs = review->answer + PAIRS;
+    size_t kept = review->answer[TOTAL] < KEPT ? review->answer[TOTAL] : KEPT, n = 0;
+    if (number == 10)
+        return write_apart(review, pairs[0], pairs[1], room);
+    for (size_t i = 0; number == 11 && i < kept; i++) {
+        n += write_apart(review, pairs[2 * i + 1], pairs[2 * i], room + n);
+        n += write_apart(review, pairs[2 * i], pairs[2 * i + 1], room + n);
+    }
+    return n;
+}
+
+static uint32_t judge(struct review *review, size_t numbers, const uint32_t *schedule, size_t steps, const size_t rooms[3])
+{
+    uint32_t number = check_tables(review, numbers);
+    if (number == 0)
+        number = check_rooms(review, rooms[0], rooms[1], rooms[2]);
+    return number == 0 ? replay(review, schedule, steps) : number;
+}
+
 uint32_t plain_review(const uint32_t *commands, size_t commands_len, const uint32_t *lengths, size_t lengths_len,
                       const uint32_t *schedule, size_t schedule_len, uint32_t *relation, size_t relation_len,
-                      uint32_t *generations, size_t generations_len, uint32_t *answer, size_t answer_len)
+                      uint32_t *generations, size_t generations_len, uint32_t *evidence, size_t evidence_len,
+                      uint32_t *answer, size_t answer_len)
 {
     struct review review;
+    const size_t rooms[3] = {relation_len, generations_len, evidence_len};
     if (answer_len < ANSWER)
         return 14;
     memset(answer, 0, ANSWER * sizeof *answer);
@@ -262,13 +330,13 @@ uint32_t plain_review(const uint32_t *commands, size_t commands_len, const uint3
     review.width = (review.rows + 31) / 32;
     review.relation = relation;
     review.answer = answer;
-    uint32_t number = check_tables(&review, commands_len, relation_len, generations_len);
-    if (number == 0)
-        number = replay(&review, schedule, schedule_len);
+    uint32_t number = judge(&review, commands_len, schedule, schedule_len, rooms);
     if (number != 0)
         return number;
     memcpy(generations, review.generations, review.rows * sizeof *generations);
     draw_edges(&review);
     close_under_chains(relation, review.rows, review.width);
-    return find_faults(&review);
+    number = find_faults(&review);
+    answer[ENTRIES] = (uint32_t)write_evidence(&review, number, evidence);
+    return number;
 }

@@ -1,7 +1,8 @@
 /*
  * Where the time of a review goes, how it grows with the number of commands, and how long ordinary C (bench/plain.c) takes for the same.
  * bench/README.md tells the method and what it does not say.
- * Built with BEFORE, over a second archive whose functions have `before_` put before their names: also how long that one takes.
+ * Built with BEFORE, over a second archive whose functions have `before_` put before their names: also how long that one takes. With BARE as well, its review
+ * has no evidence slice, as before request 2026-04, and is named `bare_probe_review`.
  * Every answer is checked; a wrong one ends the program with status 1. No time does.
  */
 #define _POSIX_C_SOURCE 199309L
@@ -28,6 +29,27 @@
 #undef probe_close
 #endif
 
+/* The second archive's review by the parameters that it has: one call more, and no evidence. */
+#ifdef BARE
+uint32_t bare_probe_review(const uint32_t *commands, size_t commands_len, const uint32_t *lengths, size_t lengths_len,
+                           const uint32_t *schedule, size_t schedule_len, uint32_t *relation, size_t relation_len,
+                           uint32_t *generations, size_t generations_len, uint32_t *answer, size_t answer_len);
+
+uint32_t before_probe_review(const uint32_t *commands, size_t commands_len, const uint32_t *lengths, size_t lengths_len,
+                             const uint32_t *schedule, size_t schedule_len, uint32_t *relation, size_t relation_len,
+                             uint32_t *generations, size_t generations_len, uint32_t *evidence, size_t evidence_len,
+                             uint32_t *answer, size_t answer_len)
+{
+    (void)evidence;
+    (void)evidence_len;
+    return bare_probe_review(commands, commands_len, lengths, lengths_len, schedule, schedule_len, relation, relation_len, generations,
+                             generations_len, answer, answer_len);
+}
+enum { IS_BARE = 1 };
+#else
+enum { IS_BARE = 0 };
+#endif
+
 struct archive {
     __typeof__(&probe_review) review;
     __typeof__(&probe_schedule) schedule;
@@ -42,14 +64,15 @@ static const struct archive archives[] = {
 #endif
 };
 
-enum { COMMANDS = 512, THREADS = 64, WORDS = COMMANDS * COMMANDS / 32, ANSWER = 36, TEXT = 32768, FILLING = 0xa5 };
+enum { COMMANDS = 512, THREADS = 64, WORDS = COMMANDS * COMMANDS / 32, KEPT = 16, EVIDENCE = 2 * KEPT * COMMANDS };
+enum { ANSWER = 36, ENTRIES = 3, PAIRS = 4, TEXT = 32768, FILLING = 0xa5 };
 enum { ARRIVE = 2, SYNC = 3 };
 enum { KINDS = 6, SIZES = 4, LAST = SIZES - 1, ROUNDS = 41 };
 enum { NOW, THEN, ARCHIVES = sizeof archives / sizeof *archives };
 enum part { READING, WRITING, REPLAY, REVIEW, ORDINARY, PARTS };
 static const double SAMPLE = 0.002; /* seconds: a sample repeats its call until so much is spent */
 
-/* What a review writes. */
+/* What a review writes and document 01 leaves no choice of; the evidence stands apart. */
 struct rooms {
     uint32_t relation[WORDS], generations[COMMANDS], answer[ANSWER];
 };
@@ -62,6 +85,7 @@ struct task {
     char text[TEXT];
     uint32_t commands[3 * COMMANDS], lengths[THREADS], schedule[COMMANDS];
     struct rooms rooms, first; /* lent to each call; as the first review left them */
+    uint32_t evidence[EVIDENCE];
 };
 
 /* A pattern of texts: what one thread does, and the verdict. Either all threads have a given length, or there are given threads. */
@@ -191,7 +215,7 @@ static uint32_t total(const struct task *task)
 static uint32_t review(__typeof__(&probe_review) door, struct task *task, size_t steps)
 {
     return door(task->commands, 3 * task->rows, task->lengths, task->threads, task->schedule, steps, task->rooms.relation, WORDS,
-                task->rooms.generations, COMMANDS, task->rooms.answer, ANSWER);
+                task->rooms.generations, COMMANDS, task->evidence, EVIDENCE, task->rooms.answer, ANSWER);
 }
 
 static uint32_t call(int archive, enum part part, struct task *task)
@@ -247,10 +271,59 @@ static void try_part(int archive, struct task *task, enum part part, const char 
     expect(task, what, task->rooms.answer[at], expected);
 }
 
+/* The archive's own review of a schedule, over rooms of its own; answers its verdict, 10 only where some generation is another than in the text's schedule. */
+static uint32_t judge(const struct task *task, const uint32_t *steps, size_t n)
+{
+    static struct rooms rooms;
+    static uint32_t evidence[EVIDENCE];
+    uint32_t number = probe_review(task->commands, 3 * task->rows, task->lengths, task->threads, steps, n, rooms.relation, WORDS, rooms.generations, COMMANDS,
+                                   evidence, EVIDENCE, rooms.answer, ANSWER);
+    int same = memcmp(rooms.generations, task->rooms.generations, task->rows * sizeof *rooms.generations) == 0;
+    return number == 10 && same ? 0 : number;
+}
+
+/* The step that runs a command. */
+static uint32_t when(const struct task *task, const uint32_t *steps, uint32_t command)
+{
+    uint32_t s = 0;
+    for (uint32_t before = command % task->length;; s++)
+        if (steps[s] == command / task->length && before-- == 0)
+            return s;
+}
+
+/* For 11: two schedules a kept pair, with the pair in both orders. */
+static void try_races(const struct task *task, size_t entries)
+{
+    uint32_t kept = total(task) < KEPT ? total(task) : KEPT;
+    expect(task, "the number of entries", (uint32_t)entries, 2 * kept * task->rows);
+    for (uint32_t part = 0; part < 2 * kept; part++) {
+        const uint32_t *steps = task->evidence + part * task->rows, *pair = task->rooms.answer + PAIRS + part / 2 * 2;
+        expect(task, "a schedule of the evidence", judge(task, steps, task->rows), 11);
+        expect(task, "a pair with y first", when(task, steps, pair[0]) > when(task, steps, pair[1]), part % 2);
+    }
+}
+
+/* The evidence shows the verdict. Its number of entries is then taken out of the answer, as another review may write other schedules. */
+static void try_evidence(struct task *task, int is_bare)
+{
+    size_t entries = task->rooms.answer[ENTRIES];
+    if (is_bare || (task->kind->verdict != 10 && task->kind->verdict != 11)) {
+        expect(task, "the number of entries", (uint32_t)entries, 0);
+    } else if (task->kind->verdict == 11) {
+        try_races(task, entries);
+    } else {
+        uint32_t number = judge(task, task->evidence, entries);
+        expect(task, "a second schedule that shows a reuse fault", number >= 7 && number <= 10, 1);
+    }
+    task->rooms.answer[ENTRIES] = 0;
+}
+
 /* A review's verdict and total are the kind's. All that it leaves in the three rooms, to their ends, is what the first archive's review left. */
 static void try_review(int archive, struct task *task, enum part part, const char *what)
 {
+    memset(task->evidence, FILLING, sizeof task->evidence);
     try_part(archive, task, part, "the total", total(task), 2);
+    try_evidence(task, IS_BARE && archive == THEN && part == REVIEW);
     if (archive == NOW && part == REVIEW)
         task->first = task->rooms;
     expect(task, what, memcmp(&task->rooms, &task->first, sizeof task->rooms) == 0, 1);
@@ -373,6 +446,7 @@ static void print_method(void)
     printf("replay: the same review without the schedule's last step, which stops at verdict 6.\n");
     printf("order and faults: the rest of the review. ordinary C: plain_review, the whole review, built at -O3.\n");
     printf("All reviews of a text left the same answer, sheet, table and generations; its edges, closed by probe_close, were that table.\n");
+    printf("Reviews of reuse and race write evidence, ordinary C's too; each schedule of it was reviewed, and showed the verdict.\n");
     printf("A share or ratio is taken within each round; the median over the rounds is printed.\n");
     printf("Compare shares and ratios only: the figures in brackets are this machine's, at this hour.\n");
 }
@@ -444,7 +518,9 @@ int main(void)
     print_growth();
     print_ratios("Replay's share of the review, in percent", NOW, REPLAY, 100, 1);
     print_ratios("Ordinary C's time as a ratio to ours", NOW, ORDINARY, 1, 2);
-    if (ARCHIVES > 1)
+    if (IS_BARE)
+        print_ratios("The review's time by the archive before, which writes no evidence, as a ratio to the time now", THEN, REVIEW, 1, 2);
+    else if (ARCHIVES > 1)
         print_ratios("The review's time by the archive before, as a ratio to the time now", THEN, REVIEW, 1, 2);
     return 0;
 }

@@ -31,11 +31,17 @@ extern "C" {
  *   schedule     the thread of each step
  *   relation     at least M x ceil(M / 32) words, M the number of rows: happens-before for 0, 10 and 11, else untouched; later words are kept
  *   generations  at least M numbers: the generation of each command for 0, 10 and 11, else untouched; later numbers are kept
- *   answer       0 and 1: the verdict's two places; 2: the total of faults; 3: 0; from 4 to 35: both numbers of each of the sheet's sixteen pairs
+ *   evidence     at least 32 x M numbers, whatever the verdict; less is 4, digit 4. For 10 one more legal, complete schedule, in which some command has
+ *                another generation than in the offered one, or which ends in 7, 8 or 9. For 11 two of M entries for each pair (x, y) that the sheet keeps, end
+ *                to end: one in which x comes first, then one in which y does. Later numbers are kept; for any other verdict it is untouched. A later
+ *                build may write other schedules that show the same
+ *   answer       0 and 1: the verdict's two places; 2: the total of faults; 3: how many numbers of evidence were written, 0 for all but 10 and 11; from 4 to
+ *                35: both numbers of each of the sheet's sixteen pairs
  */
 uint32_t probe_review(const uint32_t *commands, size_t commands_len, const uint32_t *lengths, size_t lengths_len,
                       const uint32_t *schedule, size_t schedule_len, uint32_t *relation, size_t relation_len,
-                      uint32_t *generations, size_t generations_len, uint32_t *answer, size_t answer_len);
+                      uint32_t *generations, size_t generations_len, uint32_t *evidence, size_t evidence_len,
+                      uint32_t *answer, size_t answer_len);
 
 /*
  * Writes a legal, complete schedule. Returns 0, or a refusal, 1 to 4.

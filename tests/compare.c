@@ -1,5 +1,6 @@
 /*
- * Holds the archives to the reference of document 01 (reference.c), and to demand 3 by all schedules of small programs (schedules.c).
+ * Holds the archives to the reference of document 01 (reference.c), the evidence of a review to its words (evidence.c), and demand 3 to all schedules of small
+ * programs (schedules.c).
  *
  *   compare SEED COUNT         COUNT numbered cases of that seed; each makes a few calls
  *   compare SEED MINUTESm      as many cases as fit into so many minutes
@@ -19,31 +20,36 @@
 
 #include "../include/desk.h"
 #include "../include/probe.h"
+#include "evidence.h"
 #include "inputs.h"
 #include "lent.h"
 #include "schedules.h"
 
-enum { ANSWER = 36, WORDS = ROWS * ROWS / 32, OFTEN = 10 };
+enum { ANSWER = 36, WORDS = ROWS * ROWS / 32, EVIDENCE = 32 * ROWS, OFTEN = 10 };
 enum door { REVIEW, SCHEDULE, READING, TEXTS, CLOSING, DOORS };
-enum mark { PAST_SIXTEEN, FULL_TABLE, ALL_THREADS, WRAPPED, BYTES, COMMANDS, MANY_THREADS, ROOM, MANY_ROWS, WIDE_ROWS, DIGIT_0, DIGIT_1, DIGIT_2, FULL_REPORT, AGAIN, ORDERED, MARKS };
+enum mark { PAST_SIXTEEN, FULL_TABLE, ALL_THREADS, WRAPPED, BYTES, COMMANDS, MANY_THREADS, ROOM, MANY_ROWS, WIDE_ROWS, DIGIT_0, DIGIT_1, DIGIT_2, DIGIT_4, LOWER_0, LOWER_1, TABLES_FIRST,
+            LONG_REUSE, LONG_RACES, TO_THE_LAST, FULL_REPORT, AGAIN, ORDERED, MARKS };
 
 static const char *const doors[DOORS] = {"probe_review", "probe_schedule", "probe_read", "review_text", "probe_close"};
 static const char *const marks[MARKS] = {"a sheet past sixteen pairs", "a review of over 500 rows up to 0, 10 or 11", "a review of 64 threads up to 0, 10 or 11",
                                          "lengths that add up if the sum wraps", "13 for bytes", "13 for commands", "13 for threads", "13 for a room",
-                                         "closing of over 100 rows", "closing of rows of eight words or more", "4 with digit 0", "4 with digit 1", "4 with digit 2", "a report of sixteen pairs",
+                                         "closing of over 100 rows", "closing of rows of eight words or more", "4 with digit 0", "4 with digit 1", "4 with digit 2", "4 with digit 4",
+                                         "4 with digit 0, the evidence room short too", "4 with digit 1, the evidence room short too", "1 to 3, the evidence room short too",
+                                         "evidence for 10 of over 100 rows", "evidence for 11 of over 100 rows", "evidence to the room's last number", "a report of sixteen pairs",
                                          "all schedules agree and a barrier is used again", "all schedules agree and a barrier orders a conflict"};
 /* The answers that each door has to give OFTEN. */
 static const uint32_t answers[DOORS] = {0x4fff, 0x401f, 0x7001, 0x7f89, 0x3};
 
 static unsigned long long seed_given, number;
 static unsigned long calls[DOORS], answered[DOORS][16], marked[MARKS], programs, schedules;
+static unsigned long evident[2], ended[16]; /* reviews whose evidence was checked, for 10 and for 11; how the second schedules of 10 ended */
 static enum door door;
 static volatile sig_atomic_t is_called; /* the archive's code runs, not the test's */
 static struct random drawn;
 
 /* ---- what is lent, in one call */
 
-static struct lent commands, lengths, schedule, relation, generations, answer, text, report, tables_room[2];
+static struct lent commands, lengths, schedule, relation, generations, evidence, answer, text, report, tables_room[2];
 static struct lent *now[8];
 static size_t lent_now;
 
@@ -64,6 +70,17 @@ static void fail(const char *what, long place, unsigned long found, unsigned lon
 static void fail_beside(const struct lent *lent, long place)
 {
     fprintf(stderr, "compare: seed %llu, number %llu, %s: the byte beside %s at %ld has changed\n", seed_given, number, doors[door], lent->name, place);
+    tell_input();
+    exit(1);
+}
+
+static void fail_evidence(const struct shown *shown, const uint32_t *written, size_t count)
+{
+    fprintf(stderr, "compare: seed %llu, number %llu, %s: evidence of %lu entries: %s, at %lu:", seed_given, number, doors[door], (unsigned long)count, shown->flaw,
+            (unsigned long)shown->at);
+    for (size_t i = 0; i < count && i < evidence.bytes / 4; i++)
+        fprintf(stderr, " %lu", (unsigned long)written[i]);
+    fprintf(stderr, "\n");
     tell_input();
     exit(1);
 }
@@ -150,6 +167,23 @@ static size_t answer_room(void)
     return chance(&drawn, 50) ? ANSWER : ANSWER + below(&drawn, 5);
 }
 
+/* Rooms for a review of so many rows: most of them just enough, some more, some less, and now and then none at all for evidence. */
+static struct rooms some_rooms(size_t rows)
+{
+    size_t n = rows > ROWS ? 0 : rows;
+    struct rooms lent;
+    lent.relation = some_room(relation_words(n), WORDS + 40);
+    lent.generations = some_room(rows, MOST_STEPS);
+    lent.evidence = below(&drawn, 50) == 0 ? 0 : some_room(evidence_numbers(n), EVIDENCE + 40);
+    return lent;
+}
+
+static struct rooms just_enough(size_t rows)
+{
+    struct rooms lent = {relation_words(rows), rows, evidence_numbers(rows)};
+    return lent;
+}
+
 static size_t some_report_room(void)
 {
     if (below(&drawn, 40) == 0)
@@ -182,7 +216,7 @@ static void must_hold_relation(struct lent *lent, size_t rows, uint8_t bits[ROWS
                 words[i * width + j / 32] |= (uint32_t)1 << (j % 32);
 }
 
-/* As include/probe.h lays the answer out. */
+/* As include/probe.h lays the answer out; how many numbers of evidence were written is told by the answer itself. */
 static void must_hold_review(const struct review *review, size_t rows)
 {
     uint32_t *told = must_hold(&answer);
@@ -197,33 +231,96 @@ static void must_hold_review(const struct review *review, size_t rows)
     memcpy(must_hold(&generations), review->generations, rows * sizeof *review->generations);
 }
 
+static void mark_evidence(const struct review *review, const struct shown *shown, size_t rows, size_t count)
+{
+    int is_race = review->verdict.number == 11;
+    evident[is_race]++;
+    ended[shown->ended] += !is_race;
+    marked[is_race ? LONG_RACES : LONG_REUSE] += rows > 100;
+    marked[TO_THE_LAST] += 4 * count == evidence.bytes;
+}
+
+static void must_be_refused(const struct tables *tables, const struct review *review, const uint32_t *entries, size_t count, const char *what)
+{
+    struct shown shown = check_evidence(tables, review, entries, count);
+    if (shown.flaw != NULL)
+        return;
+    shown.flaw = what;
+    fail_evidence(&shown, entries, count);
+}
+
+/* The checker, tried on what is no evidence: one entry fewer or more, the offered schedule once more, the two schedules of the last pair exchanged. */
+static void try_checker(const struct tables *tables, const struct review *review, const uint32_t *written, size_t count)
+{
+    static uint32_t entries[EVIDENCE + 1];
+    size_t rows = rows_of(tables);
+    memcpy(entries, written, count * sizeof *entries);
+    entries[count] = below(&drawn, (uint32_t)tables->threads);
+    must_be_refused(tables, review, entries, count - 1, "the checker took a part of it");
+    must_be_refused(tables, review, entries, count + 1, "the checker took one entry more");
+    if (review->verdict.number == 10) {
+        must_be_refused(tables, review, must_hold(&schedule), rows, "the checker took the offered schedule");
+        return;
+    }
+    memcpy(entries + count - 2 * rows, written + count - rows, rows * sizeof *entries);
+    memcpy(entries + count - rows, written + count - 2 * rows, rows * sizeof *entries);
+    must_be_refused(tables, review, entries, count, "the checker took y first before x first");
+}
+
+/* For 10 and 11: any evidence that shows the verdict passes. The room must then hold it, and after it what was lent. */
+static void must_hold_evidence(const struct tables *tables, const struct review *review, const uint32_t *written, size_t count)
+{
+    uint32_t *told = must_hold(&answer);
+    struct shown shown = check_evidence(tables, review, written, count);
+    if (shown.flaw != NULL)
+        fail_evidence(&shown, written, count);
+    if (below(&drawn, 4) == 0)
+        try_checker(tables, review, written, count);
+    told[3] = (uint32_t)count;
+    memcpy(must_hold(&evidence), written, count * sizeof *written);
+    mark_evidence(review, &shown, rows_of(tables), count);
+}
+
+static void mark_rooms(const struct review *review, struct rooms lent, size_t rows)
+{
+    uint32_t number = review->verdict.number;
+    int is_short = lent.evidence < evidence_numbers(rows);
+    marked[DIGIT_0] += number == 4 && review->verdict.p == 0;
+    marked[DIGIT_1] += number == 4 && review->verdict.p == 1;
+    marked[DIGIT_4] += number == 4 && review->verdict.p == 4;
+    marked[LOWER_0] += is_short && number == 4 && review->verdict.p == 0;
+    marked[LOWER_1] += is_short && number == 4 && review->verdict.p == 1;
+    marked[TABLES_FIRST] += is_short && number >= 1 && number <= 3;
+}
+
 static void mark_review(const struct review *review, size_t rows, size_t threads)
 {
     marked[PAST_SIXTEEN] += review->sheet.total > KEPT;
     marked[FULL_TABLE] += fills_rooms(review->verdict.number) && rows > 500;
     marked[ALL_THREADS] += fills_rooms(review->verdict.number) && threads == THREADS;
-    marked[DIGIT_0] += review->verdict.number == 4 && review->verdict.p == 0;
-    marked[DIGIT_1] += review->verdict.number == 4 && review->verdict.p == 1;
 }
 
 /* Answers the verdict. */
-static uint32_t try_review(const struct tables *tables, const uint32_t *steps, size_t n, size_t relation_room, size_t generation_room, size_t told)
+static uint32_t try_review(const struct tables *tables, const uint32_t *steps, size_t n, struct rooms lent, size_t told)
 {
     static struct review expected;
     begin_call(REVIEW);
     const uint32_t *c = numbers(&commands, tables->commands, tables->numbers), *l = numbers(&lengths, tables->lengths, tables->threads);
     const uint32_t *s = numbers(&schedule, steps, n);
-    uint32_t *r = room(&relation, relation_room), *g = room(&generations, generation_room), *a = room(&answer, told);
+    uint32_t *r = room(&relation, lent.relation), *g = room(&generations, lent.generations), *e = room(&evidence, lent.evidence), *a = room(&answer, told);
     is_called = 1;
-    uint32_t got = probe_review(c, tables->numbers, l, tables->threads, s, n, r, relation_room, g, generation_room, a, told);
+    uint32_t got = probe_review(c, tables->numbers, l, tables->threads, s, n, r, lent.relation, g, lent.generations, e, lent.evidence, a, told);
     is_called = 0;
     if (told < ANSWER) {
         end_call(got, 14);
         return 14;
     }
-    review(tables, steps, n, relation_room, generation_room, &expected);
+    review(tables, steps, n, lent, &expected);
     must_hold_review(&expected, rows_of(tables));
+    if (got == expected.verdict.number && (got == 10 || got == 11))
+        must_hold_evidence(tables, &expected, e, a[3]);
     mark_review(&expected, rows_of(tables), tables->threads);
+    mark_rooms(&expected, lent, rows_of(tables));
     end_call(got, expected.verdict.number);
     return got;
 }
@@ -366,7 +463,7 @@ static void try_close(size_t rows, size_t words, uint32_t asked)
  */
 static void hold_to_demand_3(const struct tables *tables, const uint32_t *steps, size_t n, const struct common *all)
 {
-    uint32_t verdict = try_review(tables, steps, n, relation_words(rows_of(tables)), rows_of(tables), ANSWER);
+    uint32_t verdict = try_review(tables, steps, n, just_enough(rows_of(tables)), ANSWER);
     int offered = is_legal_complete(tables, steps, n);
     int agree = offered && all->agree, one_order = agree && all->one_order;
     if ((verdict == 0 || verdict == 11) != agree)
@@ -402,8 +499,21 @@ static void tables_case(int damaged)
     try_schedule(&tables, steps_room, answer_room());
     for (int i = 0; i < (rows > 100 ? 1 : 2); i++) {
         size_t n = make_schedule(&drawn, &tables, steps);
-        size_t relation_room = some_room(rows > ROWS ? 0 : relation_words(rows), WORDS + 40), generation_room = some_room(rows, MOST_STEPS);
-        try_review(&tables, steps, n, relation_room, generation_room, answer_room());
+        struct rooms lent = some_rooms(rows);
+        try_review(&tables, steps, n, lent, answer_room());
+    }
+}
+
+/* Legal schedules of programs that have faults, most of them with just the rooms that are needed. */
+static void evidence_case(void)
+{
+    int is_big = chance(&drawn, 4);
+    faulty_program(&drawn, is_big ? THREADS : 8, is_big ? ROWS : chance(&drawn, 90) ? 14 : 60, &program);
+    struct tables tables = tables_of(&program);
+    for (int i = 0; i < (is_big ? 1 : 3); i++) {
+        size_t n = legal_schedule(&drawn, &tables, steps);
+        struct rooms lent = chance(&drawn, 70) ? just_enough(rows_of(&tables)) : some_rooms(rows_of(&tables));
+        try_review(&tables, steps, n, lent, ANSWER);
     }
 }
 
@@ -480,6 +590,8 @@ static void try_number(void)
         close_case();
     } else if (which < 200) {
         all_schedules_case();
+    } else if (which < 300) {
+        evidence_case();
     } else {
         small_program(&drawn, chance(&drawn, 90) ? 16 : 60, &program);
         if (which < 650)
@@ -512,13 +624,15 @@ static void demand_all(void)
         demand_often(marks[m], "", marked[m]);
 }
 
+/* One line. tests/tools.sh adds up the figures of two processes: no other number may stand in it by itself. */
 static void print_figures(void)
 {
     unsigned long all = 0;
     for (int d = 0; d < DOORS; d++)
         all += calls[d];
-    printf("%lu inputs: %lu reviews, %lu schedules to write, %lu readings, %lu text reviews, %lu closings; of %lu programs all %lu schedules\n", all, calls[REVIEW],
+    printf("%lu inputs: %lu reviews, %lu schedules to write, %lu readings, %lu text reviews, %lu closings; of %lu programs all %lu schedules;", all, calls[REVIEW],
            calls[SCHEDULE], calls[READING], calls[TEXTS], calls[CLOSING], programs, schedules);
+    printf(" evidence checked of %lu reuse faults and %lu races\n", evident[0], evident[1]);
 }
 
 /* With COMPARE_DETAILS set: how often each answer and each mark came. */
@@ -533,6 +647,7 @@ static void print_details(void)
     }
     for (int m = 0; m < MARKS; m++)
         printf("  %s: %lu\n", marks[m], marked[m]);
+    printf("  evidence for 10: clean with another generation %lu, ended in 7 %lu, in 8 %lu, in 9 %lu\n", ended[0], ended[7], ended[8], ended[9]);
 }
 
 static void make_all(void)
@@ -542,6 +657,7 @@ static void make_all(void)
     make_lent(&schedule, "schedule", 4 * (MOST_STEPS + 8));
     make_lent(&relation, "relation", 4 * (WORDS + 80));
     make_lent(&generations, "generations", 4 * (MOST_STEPS + 80));
+    make_lent(&evidence, "evidence", 4 * (EVIDENCE + 80));
     make_lent(&answer, "answer", 4 * (ANSWER + 8));
     make_lent(&text, "text", MOST_TEXT + 64);
     make_lent(&report, "report", REPORT + 100);

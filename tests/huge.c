@@ -17,8 +17,8 @@ enum { ANSWER = 36 };
 
 static unsigned long answers;
 static uint32_t *huge; /* three times PAST numbers, all 0 before each group of calls */
-static uint32_t answer[ANSWER], relation[1], generations[1], schedule[1], lengths[1];
-static const uint32_t read_0[3] = {0, 0, 0}, none[1] = {0}, one[1] = {1};
+static uint32_t answer[ANSWER], relation[2], generations[2], evidence[64], schedule[1], lengths[1];
+static const uint32_t read_0[3] = {0, 0, 0}, write_0_twice[6] = {1, 0, 0, 1, 0, 0}, none[1] = {0}, one[1] = {1}, ones[2] = {1, 1}, both[2] = {0, 1};
 
 /* What was returned, and the first numbers of the answer. */
 static void expect(const char *what, uint32_t got, uint32_t returned, uint32_t first, uint32_t third)
@@ -32,21 +32,21 @@ static void expect(const char *what, uint32_t got, uint32_t returned, uint32_t f
 
 static void try_tables(void)
 {
-    expect("2^32 rows", probe_review(huge, 3 * PAST, none, 1, none, 0, relation, 1, generations, 1, answer, ANSWER), 1, 0, 0);
-    expect("2^32 + 1 numbers", probe_review(huge, PAST + 1, none, 1, none, 0, relation, 1, generations, 1, answer, ANSWER), 1, 0, 0);
+    expect("2^32 rows", probe_review(huge, 3 * PAST, none, 1, none, 0, relation, 1, generations, 1, evidence, 32, answer, ANSWER), 1, 0, 0);
+    expect("2^32 + 1 numbers", probe_review(huge, PAST + 1, none, 1, none, 0, relation, 1, generations, 1, evidence, 32, answer, ANSWER), 1, 0, 0);
     expect("2^32 rows to write", probe_schedule(huge, 3 * PAST, none, 1, schedule, 1, answer, ANSWER), 1, 0, 0);
-    expect("2^32 + 1 threads", probe_review(none, 0, huge, PAST + 1, none, 0, relation, 1, generations, 1, answer, ANSWER), 2, 0, 0);
+    expect("2^32 + 1 threads", probe_review(none, 0, huge, PAST + 1, none, 0, relation, 1, generations, 1, evidence, 32, answer, ANSWER), 2, 0, 0);
     expect("2^32 + 1 threads to write", probe_schedule(none, 0, huge, PAST + 1, schedule, 1, answer, ANSWER), 2, 0, 0);
-    expect("2^32 steps of none", probe_review(none, 0, none, 1, huge, PAST, relation, 1, generations, 1, answer, ANSWER), 5, 0, 0);
-    expect("2^32 + 1 steps of one", probe_review(read_0, 3, one, 1, huge, PAST + 1, relation, 1, generations, 1, answer, ANSWER), 5, 1, 0);
+    expect("2^32 steps of none", probe_review(none, 0, none, 1, huge, PAST, relation, 1, generations, 1, evidence, 32, answer, ANSWER), 5, 0, 0);
+    expect("2^32 + 1 steps of one", probe_review(read_0, 3, one, 1, huge, PAST + 1, relation, 1, generations, 1, evidence, 32, answer, ANSWER), 5, 1, 0);
 }
 
 static void try_rooms(void)
 {
-    expect("a relation room", probe_review(read_0, 3, one, 1, none, 1, huge, PAST, generations, 1, answer, ANSWER), 0, 0, 0);
-    expect("a generation room", probe_review(read_0, 3, one, 1, none, 1, relation, 1, huge + 1, PAST, answer, ANSWER), 0, 0, 0);
+    expect("a relation room", probe_review(read_0, 3, one, 1, none, 1, huge, PAST, generations, 1, evidence, 32, answer, ANSWER), 0, 0, 0);
+    expect("a generation room", probe_review(read_0, 3, one, 1, none, 1, relation, 1, huge + 1, PAST, evidence, 32, answer, ANSWER), 0, 0, 0);
     expect("a schedule room", probe_schedule(read_0, 3, one, 1, huge + 2, PAST, answer, ANSWER), 0, 0, 1);
-    uint32_t got = probe_review(read_0, 3, one, 1, none, 1, relation, 1, generations, 1, huge + 3, PAST);
+    uint32_t got = probe_review(read_0, 3, one, 1, none, 1, relation, 1, generations, 1, evidence, 32, huge + 3, PAST);
     memcpy(answer, huge + 3, sizeof answer);
     expect("an answer room", got, 0, 0, 0);
     uint32_t bits = huge[0] == 1 && relation[0] == 1 && generations[0] == 0 && huge[1] == 0 && huge[2] == 0;
@@ -56,6 +56,19 @@ static void try_rooms(void)
     expect("the bit that is left", huge[0], 1, 0, 0);
     expect("closing 2^32 - 1 rows", probe_close(huge, PAST, 0xffffffffu), 0, 0, 0);
     huge[0] = 0;
+}
+
+/* The only evidence that shows a race of two commands: each of the two first. */
+static void try_evidence(void)
+{
+    const uint32_t both_ways[4] = {0, 1, 1, 0};
+    uint32_t *kept = huge + 4;
+    expect("an evidence room, nothing to show", probe_review(read_0, 3, one, 1, none, 1, relation, 1, generations, 1, huge, PAST, answer, ANSWER), 0, 0, 0);
+    expect("what it holds", huge[0] == 0 && answer[3] == 0, 1, 0, 0);
+    expect("an evidence room", probe_review(write_0_twice, 6, ones, 2, both, 2, relation, 2, generations, 2, huge, PAST, answer, ANSWER), 11, 0, 1);
+    expect("what it holds now", memcmp(huge, both_ways, sizeof both_ways) == 0 && kept[0] == 0 && kept[60] == 0 && answer[3] == 4, 1, 0, 1);
+    expect("an evidence room of 63", probe_review(write_0_twice, 6, ones, 2, both, 2, relation, 2, generations, 2, evidence, 63, answer, ANSWER), 4, 4, 0);
+    memset(huge, 0, sizeof both_ways);
 }
 
 static void try_texts(void)
@@ -86,6 +99,7 @@ int main(void)
     huge = all;
     try_tables();
     try_rooms();
+    try_evidence();
     try_texts();
     printf("huge: %lu answers, every one as expected\n", answers);
     return 0;

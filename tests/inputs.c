@@ -222,6 +222,37 @@ static void draft_program(struct random *random, uint32_t commands)
         spoil(random);
 }
 
+/* Groups of the same size come to one barrier, and most of their threads do not wait: nothing tells one group from the next. */
+static void groups(struct random *random, uint32_t commands)
+{
+    uint32_t count = 1 + below(random, draft.threads < 4 ? draft.threads : 4), syncs = 10 + below(random, 60);
+    for (uint32_t done = 0; done + count <= commands && draft.most - draft.rows >= count; done += count) {
+        uint32_t first = below(random, draft.threads);
+        for (uint32_t i = 0; i < count; i++)
+            put((first + i) % draft.threads, chance(random, syncs) ? SYNC : ARRIVE, 0, count);
+        if (chance(random, 20) && draft.rows < draft.most)
+            put(first, READ, 0, 0);
+    }
+}
+
+/* Two threads take turns, each saying by a barrier of its own that it is the other's; then one sync is made an arrive, so that one turn may come too soon. */
+static void turns(struct random *random, uint32_t commands)
+{
+    uint32_t addresses = 1 + below(random, 3), spoiled = below(random, 2);
+    for (uint32_t i = 0; 6 * i < commands && draft.most - draft.rows >= 6; i++)
+        for (uint32_t t = 0; t < 2; t++) {
+            uint32_t one = t % draft.threads, other = (t + 1) % draft.threads;
+            put(one, chance(random, 70) ? WRITE : READ, below(random, addresses), 0);
+            put(one, ARRIVE, t, 2);
+            put(other, SYNC, t, 2);
+        }
+    for (uint32_t i = below(random, 6); spoiled && i < draft.lengths[0]; i++)
+        if (draft.row[0][i][0] == SYNC) {
+            draft.row[0][i][0] = ARRIVE;
+            return;
+        }
+}
+
 /* The same program with other names, so that the last barrier and the last address come up as the first ones do. */
 static void rename_all(struct random *random)
 {
@@ -237,6 +268,27 @@ void small_program(struct random *random, uint32_t most, struct program *program
 {
     begin(1 + below(random, 6), most);
     draft_program(random, below(random, most + 1));
+    rename_all(random);
+    lay_out(program);
+}
+
+void faulty_program(struct random *random, uint32_t threads, uint32_t most, struct program *program)
+{
+    uint32_t commands = 1 + below(random, most), addresses = 1 + below(random, 3);
+    struct style style = {2, addresses, 1, 100, 100, 70};
+    begin(1 + below(random, threads), most);
+    switch (below(random, 4)) {
+    case 0: /* all meet, and before that they touch a few addresses */
+        rounds(random, &style, below(random, 1 + commands / draft.threads));
+        break;
+    case 1:
+        turns(random, commands);
+        break;
+    default:
+        groups(random, commands);
+    }
+    while (chance(random, 70) && draft.rows < draft.most)
+        put_access(random, &style, below(random, draft.threads));
     rename_all(random);
     lay_out(program);
 }

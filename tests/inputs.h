@@ -25,6 +25,9 @@ uint32_t odd_number(struct random *random);
 /* 1 to 6 threads, few barriers and counts, at most `most` commands: every verdict comes. */
 void small_program(struct random *random, uint32_t most, struct program *program);
 
+/* At most so many threads and commands, and often a reuse fault or a race in what else ends clean. */
+void faulty_program(struct random *random, uint32_t threads, uint32_t most, struct program *program);
+
 /* Up to 512 rows and 64 threads, and often just so many. */
 void big_program(struct random *random, struct program *program);
 

@@ -1,4 +1,4 @@
-/* Document 01 in plain C, in its order. Each part stands under the sentence that it is written from. */
+/* Document 01 in plain C, in its order, with what document 02 changed. Each part stands under the sentence that it is written from. */
 #include <stdio.h>
 #include <string.h>
 
@@ -16,6 +16,12 @@ size_t rows_of(const struct tables *tables)
 size_t relation_words(size_t rows)
 {
     return rows * ((rows + 31) / 32);
+}
+
+/* 2026-04: "The room needs 32 x M numbers whatever the verdict." */
+size_t evidence_numbers(size_t rows)
+{
+    return 32 * rows;
 }
 
 /* "Names: an address 0 to 4,095 for kinds 0 and 1, a barrier 0 to 15 for kinds 2 and 3. Counts: 0 for kinds 0 and 1; 1 to 1,024 for kinds 2 and 3." */
@@ -325,19 +331,30 @@ static struct verdict find_faults(const struct tables *tables, struct review *ou
     return verdict(0, 0, 0);
 }
 
+/*
+ * "4: relation room short (0), generation room short (1); the lowest digit if several: that digit, 0". 2026-04: "Less is 4 (digit 4), tested with the other
+ * rooms."
+ */
+static struct verdict check_rooms(const struct tables *tables, struct rooms lent)
+{
+    size_t rows = rows_of(tables);
+    if (lent.relation < relation_words(rows))
+        return verdict(4, 0, 0);
+    if (lent.generations < rows)
+        return verdict(4, 1, 0);
+    if (lent.evidence < evidence_numbers(rows))
+        return verdict(4, 4, 0);
+    return verdict(0, 0, 0);
+}
+
 /* "Unused places are 0; outside 10 and 11 the sheet is empty with total 0." */
-void review(const struct tables *tables, const uint32_t *schedule, size_t steps, size_t relation_room, size_t generation_room, struct review *out)
+void review(const struct tables *tables, const uint32_t *schedule, size_t steps, struct rooms lent, struct review *out)
 {
     memset(&out->sheet, 0, sizeof out->sheet);
     out->verdict = check_tables(tables);
-    if (out->verdict.number != 0)
-        return;
-    /* "4: relation room short (0), generation room short (1); the lowest digit if several: that digit, 0" */
-    if (relation_room < relation_words(rows_of(tables)))
-        out->verdict = verdict(4, 0, 0);
-    else if (generation_room < rows_of(tables))
-        out->verdict = verdict(4, 1, 0);
-    else
+    if (out->verdict.number == 0)
+        out->verdict = check_rooms(tables, lent);
+    if (out->verdict.number == 0)
         out->verdict = replay(tables, schedule, steps, out->generations);
     if (out->verdict.number == 0)
         out->verdict = find_faults(tables, out);
@@ -547,8 +564,9 @@ size_t review_of_text(const uint8_t *text, size_t length, size_t report_room, st
     memset(&judged.sheet, 0, sizeof judged.sheet);
     if (reading.verdict.number == 0) {
         struct tables tables = {reading.rows, 3 * reading.commands, reading.lengths, reading.threads};
+        struct rooms full = {relation_words(ROWS), ROWS, evidence_numbers(ROWS)};
         write_schedule(&tables, ROWS, &schedule);
-        review(&tables, schedule.steps, schedule.length, relation_words(ROWS), ROWS, &judged);
+        review(&tables, schedule.steps, schedule.length, full, &judged);
         *answer = judged.verdict;
     }
     return print_report(*answer, &judged.sheet, report);

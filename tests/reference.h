@@ -1,6 +1,6 @@
 /*
- * Document 01 once more, in plain C, for the tests to hold the archives to. It was written from the document's sentences and shares nothing with the
- * code, its definitions or its proofs. It is slow and simple on purpose.
+ * Document 01 once more, with what document 02 changed, in plain C, for the tests to hold the archives to. It was written from the documents' sentences and
+ * shares nothing with the code, its definitions or its proofs. It is slow and simple on purpose.
  */
 #ifndef REFERENCE_H
 #define REFERENCE_H
@@ -52,6 +52,11 @@ struct review {
     uint8_t reaches[ROWS][ROWS];
 };
 
+/* How many words and numbers the rooms have that a review is lent. */
+struct rooms {
+    size_t relation, generations, evidence;
+};
+
 struct schedule {
     struct verdict verdict;
     size_t length;
@@ -67,6 +72,7 @@ struct reading {
 
 size_t rows_of(const struct tables *tables);
 size_t relation_words(size_t rows);
+size_t evidence_numbers(size_t rows);
 struct verdict check_tables(const struct tables *tables);
 
 void start(struct state *state);
@@ -80,7 +86,7 @@ enum did step(const struct tables *tables, struct state *state, uint32_t thread,
 void close_under_chains(size_t rows, uint8_t relation[ROWS][ROWS]);
 int conflict(const struct tables *tables, size_t x, size_t y);
 
-void review(const struct tables *tables, const uint32_t *schedule, size_t steps, size_t relation_room, size_t generation_room, struct review *out);
+void review(const struct tables *tables, const uint32_t *schedule, size_t steps, struct rooms lent, struct review *out);
 void write_schedule(const struct tables *tables, size_t room, struct schedule *out);
 void read_text(const uint8_t *text, size_t length, size_t commands_room, size_t lengths_room, struct reading *out);
 

@@ -9,7 +9,9 @@
  *     NAME: COMMANDS / LENGTHS / SIZES / SCHEDULE    the review of a schedule that is given
  *     "NAME: C L: TEXT                               the reader
  * SIZES are five: how many numbers the commands are, how many the lengths, each list being repeated where it is shorter; and how many places the rooms have for
- * the schedule, the relation and the generations. C and L are how many places the rooms have for the commands, counted in numbers, and for the lengths.
+ * the schedule, the relation and the generations. A sixth is how many the room for evidence has, which is a full one else; then it is printed how many entries were told
+ * and how many places were kept. The entries themselves are left open by document 02: tests/probe.c and tests/compare.c hold them to its words.
+ * C and L are how many places the rooms have for the commands, counted in numbers, and for the lengths.
  * TEXT begins after one space and is written in pieces: `\DDD` is the byte of that decimal number, `&` parts pieces, and a piece that begins with `N*` stands N
  * times. So `\010` is a newline, and `512*read 0;&return` has 512 commands.
  */
@@ -19,17 +21,17 @@
 
 #include "../include/probe.h"
 
-enum { COMMANDS = 1600, LENGTHS = 70, STEPS = 520, RELATION = 8200, GENERATIONS = 520, TEXT = 32800, ANSWER = 36, SHOWN = 40, KEPT = 16 };
+enum { COMMANDS = 1600, LENGTHS = 70, STEPS = 520, RELATION = 8200, GENERATIONS = 520, EVIDENCE = 16400, TEXT = 32800, ANSWER = 36, SHOWN = 40, KEPT = 16 };
 
 /* A room, what it is soiled with, and how many of its places are lent. */
 struct room {
     uint32_t dirt;
     size_t places, lent;
-    uint32_t cells[RELATION];
+    uint32_t cells[EVIDENCE];
 };
 
 static struct room relation = {.dirt = 0xDEAD0000, .places = RELATION}, generations = {.dirt = 0xBEEF0000, .places = GENERATIONS};
-static struct room schedule = {.dirt = 0xFEED0000, .places = STEPS};
+static struct room schedule = {.dirt = 0xFEED0000, .places = STEPS}, evidence = {.dirt = 0xACED0000, .places = EVIDENCE};
 static struct room commands = {.dirt = 0xC0DE0000, .places = COMMANDS}, lengths = {.dirt = 0xFACE0000, .places = LENGTHS};
 static uint32_t answer[ANSWER];
 
@@ -46,12 +48,19 @@ static void soil(struct room *room, uint32_t size)
         room->cells[i] = stain(room, i);
 }
 
-/* The words that were written, by a sum if they are many, and how many places after them were kept. */
-static void show(const char *name, const struct room *room)
+/* How many places there are up to the last that was written. */
+static size_t written(const struct room *room)
 {
     size_t n = room->lent;
     while (n > 0 && room->cells[n - 1] == stain(room, n - 1))
         n--;
+    return n;
+}
+
+/* The words that were written, by a sum if they are many, and how many places after them were kept. */
+static void show(const char *name, const struct room *room)
+{
+    size_t n = written(room);
     printf("; %s", name);
     if (n > SHOWN) {
         uint32_t sum = 0;
@@ -110,8 +119,8 @@ static size_t table(const char *from, const char *end, uint32_t *list, size_t si
 struct tables {
     const char *name;
     int name_size;
-    uint32_t rows[COMMANDS], threads[LENGTHS], sizes[5];
-    size_t rows_size, threads_size;
+    uint32_t rows[COMMANDS], threads[LENGTHS], sizes[6];
+    size_t rows_size, threads_size, sizes_size;
 };
 
 /* The total, and then all sixteen places: those that hold a pair, and those that should be 0 and are not. */
@@ -127,16 +136,28 @@ static void show_sheet(void)
     }
 }
 
+/* Of the room for evidence: what a case of six sizes asks for, and in any case what should not be. */
+static void show_evidence(const struct tables *t, uint32_t verdict)
+{
+    size_t n = written(&evidence);
+    if (t->sizes_size == 6)
+        printf("; evidence %u kept %zu", answer[3], evidence.lent - n);
+    if (n != answer[3] || (n > 0 && verdict != 10 && verdict != 11))
+        printf("; stray evidence %zu of %u", n, answer[3]);
+}
+
 static void reviews(const struct tables *t, const uint32_t *steps, size_t n)
 {
     soil(&relation, t->sizes[3]);
     soil(&generations, t->sizes[4]);
+    soil(&evidence, t->sizes_size == 6 ? t->sizes[5] : EVIDENCE);
     uint32_t verdict = probe_review(t->rows, t->rows_size, t->threads, t->threads_size, steps, n, relation.cells, relation.lent,
-                                    generations.cells, generations.lent, answer, ANSWER);
+                                    generations.cells, generations.lent, evidence.cells, evidence.lent, answer, ANSWER);
     printf("%.*s reviewed %u %u %u", t->name_size, t->name, verdict, answer[0], answer[1]);
     show_sheet();
     show("generations", &generations);
     show("relation", &relation);
+    show_evidence(t, verdict);
     printf("\n");
 }
 
@@ -160,7 +181,8 @@ static void of_tables(const char *from, const char *end)
     const char *third = after(second, end, '/');
     t.name = from;
     t.name_size = (int)(named - from);
-    if (numbers(second, third, t.sizes, 5) != 5) {
+    t.sizes_size = numbers(second, third, t.sizes, 6);
+    if (t.sizes_size < 5) {
         fprintf(stderr, "vectors: a case without five sizes: %.*s\n", t.name_size, t.name);
         exit(2);
     }
