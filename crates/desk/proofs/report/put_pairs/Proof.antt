@@ -14,26 +14,27 @@ use Rattle.desk.proofs.report.put_pairs.Tie as tie
 
 abbrev Inv-loop : tie.InvT-loop
 Inv-loop room₀ at sheet lines next₀ i₀ room next i =
-    PutsBytes room₀ room at (pairLines (take i (sheet .pairs))) next × (i ≤ lines) × (length (sheet .pairs) ≡ 16)
+    PutsBytes room₀ room at (pairLines (take i (sheet .pairs))) next × (i ≤ lines) × (lines ≤ 16) × (length (sheet .pairs) ≡ 16)
 
 abbrev μ-loop : tie.MeasureT-loop
 μ-loop room₀ at sheet lines next₀ i₀ room next i = lines - i
 
 loop-holds : tie.Need-loop-holds Inv-loop μ-loop
-unfolding pairLines
+unfolding pairLines mostKept
 loop-holds c =
     let s = c .before .before in
-    (puts-none _ _, omega arith, sym (length-map (s .args .t3 .pairs) _) ∙ s .good .1 .1 .0 .1 .1 .0 .1 .0 .1)
+    (puts-none _ _, omega arith, omega (arith, c .kept .ensures), sym (length-map (s .args .t3 .pairs) _) ∙ s .good .1 .1 .0 .1 .1 .0 .1 .0 .1)
 
 loop-again : tie.Need-loop-again Inv-loop μ-loop
 loop-again c =
     let l = c .before .before .before .before .before .before in
     let s = l .before .before .before in
     let i<n = c .before .before .before .before .before .loop-test .taken in (
-      rw (pairs-next (s .args .t3 .pairs) (l .loop .i) (pair 0 0) (omega (arith, i<n, l .before .kept .ensures, l .loop .inv .2)))
+      rw (pairs-next (s .args .t3 .pairs) (l .loop .i) (pair 0 0) (omega (arith, i<n, l .loop .inv .2, l .loop .inv .3)))
           (puts-on (l .loop .inv .0) (c .before .before .put-two .ensures)),
       omega (arith, i<n),
       l .loop .inv .2,
+      l .loop .inv .3,
     )
 
 returns : tie.Need-returns Inv-loop μ-loop
