@@ -1,0 +1,2 @@
+-- Read in this order: Shown (what a schedule shows).
+pub mod Shown

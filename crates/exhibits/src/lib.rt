@@ -1,0 +1,2 @@
+// What is printed of evidence.
+mod shown; // what a schedule shows
