@@ -46,10 +46,10 @@ fn other_generation(found: [u32; Table::ROWS], offered: &[u32], m: usize) -> Sho
 {
     let mut c = 0;
     while c < m {
-        let now = found[c];
-        let was = offered[c];
-        if now != was {
-            return Shown::Generation(c, now, was);
+        let g = found[c];
+        let h = offered[c];
+        if g != h {
+            return Shown::Generation(c, g, h);
         }
         c += 1;
     }
