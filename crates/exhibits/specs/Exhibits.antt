@@ -1,5 +1,5 @@
 -- What is printed of evidence: for each schedule a line in words that says what it shows, and below it the schedule.
-use mathlib.Core.Bool.{Bool, cond, not, _||_}
+use mathlib.Core.Bool.{Bool, cond}
 use mathlib.Core.List.{List, [], _∷_, _++_}
 use Prim.Native.Nat.{ℕ, min}
 use lib.Dec.{eqb}
@@ -11,7 +11,7 @@ use Rattle.sheet.specs.declared.Sheet.{Sheet}
 use Rattle.sheet.specs.Sheet.{pair, mostKept}
 use Rattle.rooms.specs.Refusals.{refused}
 use Rattle.rooms.specs.Rooms.{numberAt}
-use Rattle.replay.specs.Writer.{scheduleBy, pickedFirst}
+use Rattle.replay.specs.Writer.{apartSchedule}
 use Rattle.exhibits.specs.declared.shown.Shown.{Shown}
 use Rattle.exhibits.specs.declared.shown.Shown.the-variants.{First}
 use Rattle.exhibits.specs.Shown.{shownBy}
@@ -28,17 +28,15 @@ firstOf s = getD (s .pairs) 0 (pair 0 0)
 abbrev pub exhibit : Shown → List ℕ → List ℕ
 exhibit s τ = shownLine s ++ stepsLine τ
 
-abbrev pub apartSchedule : List ℕ → List ℕ → (ℕ → ℕ → Bool) → (c d : ℕ) → List ℕ
-apartSchedule commands lengths ρ c d = scheduleBy (pickedFirst (λ x. eqb x d || not (ρ c x)) lengths) commands lengths
-
--- over the generations g that were offered, and over what reaches what
-module _ (commands lengths : List ℕ) (g : ℕ → ℕ) (ρ : ℕ → ℕ → Bool) where
+-- over what reaches what
+module _ (commands lengths : List ℕ) (ρ : ℕ → ℕ → Bool) where
   -- of a reuse fault (c₁, c₂): c₁ waits as long as it can
   abbrev pub against : Pair → List ℕ
   against p = apartSchedule commands lengths ρ (p .first) (p .second)
 
-  unfoldable pub reuseExhibit : Pair → List ℕ
-  reuseExhibit p = exhibit (shownBy commands lengths g (against p)) (against p)
+  -- and what that shows against the generations g
+  unfoldable pub reuseExhibit : (ℕ → ℕ) → Pair → List ℕ
+  reuseExhibit g p = exhibit (shownBy commands lengths g (against p)) (against p)
 
   -- of a race, x first: y waits as long as it can
   unfoldable pub orderExhibit : (x y : ℕ) → List ℕ
@@ -49,9 +47,10 @@ module _ (commands lengths : List ℕ) (g : ℕ → ℕ) (ρ : ℕ → ℕ → B
   raceExhibits [] = []
   raceExhibits (p ∷ ps) = orderExhibit (p .first) (p .second) ++ orderExhibit (p .second) (p .first) ++ raceExhibits ps
 
-  -- 10: of the sheet's first pair. 11: of each pair that it keeps. Other verdicts have no exhibits.
-  unfoldable pub exhibits : ℕ → Sheet → List ℕ
-  exhibits n s = cond (eqb n 10) (reuseExhibit (firstOf s)) (cond (eqb n 11) (raceExhibits (keptPairs s)) [])
+-- 10: of the sheet's first pair. 11: of each pair that it keeps. Other verdicts have no exhibits.
+unfoldable pub exhibits : (commands lengths : List ℕ) (g : ℕ → ℕ) (ρ : ℕ → ℕ → Bool) → ℕ → Sheet → List ℕ
+exhibits commands lengths g ρ n s =
+    cond (eqb n 10) (reuseExhibit commands lengths ρ g (firstOf s)) (cond (eqb n 11) (raceExhibits commands lengths ρ (keptPairs s)) [])
 
 -- over lent rooms; where tables or rooms are refused there are no exhibits
 unfoldable pub exhibited : (commands lengths generations relation : List ℕ) → ℕ → Sheet → List ℕ

@@ -4,12 +4,11 @@ ghost use Prim.Native.Nat.{_-_, _^_, min};
 ghost use Rattle.tables.specs.Rows.{rows};
 ghost use Rattle.tables.specs.Rules.{Keeps};
 ghost use Rattle.relation.specs.Table.{related};
-ghost use Rattle.sheet.specs.declared.Pair.{Pair};
 ghost use Rattle.sheet.specs.Sheet.{mostKept, pair};
 ghost use Rattle.rooms.specs.Rooms.{numberAt, Roomy};
-ghost use Rattle.replay.specs.Writer.{FilledBy, Fits};
+ghost use Rattle.replay.specs.Writer.{apartSchedule, FilledBy, Fits};
 ghost use Rattle.printing.specs.Putting.{PutsBytes};
-ghost use Rattle.exhibits.specs.Exhibits.{apartSchedule, reuseExhibit, orderExhibit, raceExhibits, keptPairs, exhibited};
+ghost use Rattle.exhibits.specs.Exhibits.{reuseExhibit, orderExhibit, raceExhibits, keptPairs, exhibited};
 use crate::line::put_shown;
 use crate::line::put_steps;
 use crate::shown::Shown;
@@ -30,7 +29,7 @@ fn narrow(c: usize) -> u32
 }
 
 // The schedule in which d and what c does not reach go first, from the front of a room; answers its length.
-fn write_first(
+fn fill_apart(
     commands: &[u32],
     lengths: &[u32],
     relation: &[u32],
@@ -41,14 +40,7 @@ fn write_first(
     requires { ⌜ Fits (now commands) (now lengths) (now room) ⌝ }
     ensures { λ r. ⌜ FilledBy (apartSchedule (now (commands .entry)) (now (lengths .entry)) (related (now (relation .entry)) (rows (now (commands .entry)))) c d) (now (room .entry)) (now (room .exit)) r ⌝ }
 {
-    let written = write_apart(
-        commands,
-        lengths,
-        relation,
-        narrow(c),
-        narrow(d),
-        room,
-    );
+    let written = write_apart(commands, lengths, relation, narrow(c), narrow(d), room);
     written.length
 }
 
@@ -66,7 +58,7 @@ fn put_order(
     ensures { λ r. ⌜ PutsBytes (now (room .entry)) (now (room .exit)) at (orderExhibit (now (commands .entry)) (now (lengths .entry)) (related (now (relation .entry)) (rows (now (commands .entry)))) x y) r ⌝ }
 {
     let mut schedule = [0u32; Table::ROWS];
-    let steps = write_first(commands, lengths, relation, y, x, &mut schedule);
+    let steps = fill_apart(commands, lengths, relation, y, x, &mut schedule);
     let next = put_shown(room, at, Shown::First(x, y));
     put_steps(room, next, &schedule[..steps])
 }
@@ -83,10 +75,10 @@ fn put_reuse(
     at: usize,
 ) -> usize
     requires { ⌜ Roomy (now commands) (now lengths) (now generations) (now relation) ⌝ }
-    ensures { λ r. ⌜ PutsBytes (now (room .entry)) (now (room .exit)) at (reuseExhibit (now (commands .entry)) (now (lengths .entry)) (numberAt (now (generations .entry))) (related (now (relation .entry)) (rows (now (commands .entry)))) (pair c d)) r ⌝ }
+    ensures { λ r. ⌜ PutsBytes (now (room .entry)) (now (room .exit)) at (reuseExhibit (now (commands .entry)) (now (lengths .entry)) (related (now (relation .entry)) (rows (now (commands .entry)))) (numberAt (now (generations .entry))) (pair c d)) r ⌝ }
 {
     let mut schedule = [0u32; Table::ROWS];
-    let steps = write_first(commands, lengths, relation, c, d, &mut schedule);
+    let steps = fill_apart(commands, lengths, relation, c, d, &mut schedule);
     let shown = shown_by(commands, lengths, generations, &schedule[..steps]);
     let next = put_shown(room, at, shown);
     put_steps(room, next, &schedule[..steps])
@@ -148,16 +140,7 @@ pub fn put_exhibits(
         let pair = sheet.pairs[0];
         let c = pair.first;
         let d = pair.second;
-        return put_reuse(
-            commands,
-            lengths,
-            generations,
-            relation,
-            c,
-            d,
-            room,
-            at,
-        );
+        return put_reuse(commands, lengths, generations, relation, c, d, room, at);
     }
     if number == 11 {
         return put_races(commands, lengths, relation, sheet, room, at);

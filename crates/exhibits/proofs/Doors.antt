@@ -1,0 +1,46 @@
+-- The exhibits of a verdict, by its number, where tables and rooms are admitted. Assumes nothing.
+use mathlib.Core.Path.{_≡_, sym, _∙_}
+use mathlib.Core.Logic.{_≢_}
+use mathlib.Core.Bool.{Bool, true, false, not}
+use mathlib.Core.List.{List, []}
+use Prim.Native.Nat.{ℕ}
+use lib.Dec.{eqb}
+use lib.ListN.{length}
+use borrow.Author.Tests.{eq-eqb, ne-eqb, eqb-true, not-true, not-false}
+use Rattle.tables.specs.Rows.{rows}
+use Rattle.relation.specs.Table.{related}
+use Rattle.sheet.specs.declared.Sheet.{Sheet}
+use Rattle.rooms.specs.Refusals.{refused}
+use Rattle.rooms.specs.Rooms.{numberAt, Roomy}
+use Rattle.rooms.proofs.Refusals.{admitted}
+use Rattle.exhibits.specs.Exhibits.{keptPairs, firstOf, reuseExhibit, raceExhibits, exhibits, exhibited}
+
+-- `admits` said r
+module _ (commands lengths generations relation : List ℕ) {r : Bool} (A : r ≡ eqb (refused commands lengths (length relation) (length generations) .number) 0) where
+  pub refused-none : not r ≡ true → (n : ℕ) (s : Sheet) → exhibited commands lengths generations relation n s ≡ []
+  unfolding exhibited
+  refused-none e n s = rw (sym A ∙ not-true r e)
+
+  module _ (e : not r ≡ false) where
+    pub admitted-roomy : Roomy commands lengths generations relation
+    admitted-roomy =
+        let a = admitted commands lengths (length relation) (length generations) (eqb-true _ _ (sym A ∙ not-false r e)) in
+        record { keeps = a .keeps; generations-fit = a .generations-fit; relation-fits = a .relation-fits }
+
+    pub admitted-all : (n : ℕ) (s : Sheet)
+        → exhibited commands lengths generations relation n s ≡ exhibits commands lengths (numberAt generations) (related relation (rows commands)) n s
+    unfolding exhibited
+    admitted-all n s = rw (sym A ∙ not-false r e)
+
+module _ (commands lengths : List ℕ) (g : ℕ → ℕ) (ρ : ℕ → ℕ → Bool) (n : ℕ) (s : Sheet) where
+  pub exhibits-ten : n ≡ 10 → exhibits commands lengths g ρ n s ≡ reuseExhibit commands lengths ρ g (firstOf s)
+  unfolding exhibits
+  exhibits-ten e = rw (eq-eqb n 10 e)
+
+  pub exhibits-eleven : n ≡ 11 → exhibits commands lengths g ρ n s ≡ raceExhibits commands lengths ρ (keptPairs s)
+  unfolding exhibits
+  exhibits-eleven e = rw e
+
+  pub exhibits-none : n ≢ 10 → n ≢ 11 → exhibits commands lengths g ρ n s ≡ []
+  unfolding exhibits
+  exhibits-none a b = rw (ne-eqb n 10 a, ne-eqb n 11 b)
