@@ -1,5 +1,5 @@
--- Where a verdict stands: no number of its place is above the limit of rows. What is told of a legal complete schedule, and how long
--- a written one is. Assumes nothing.
+-- Where a verdict stands: no number of its place is above the limit of rows, and no generation. What is told of a legal complete schedule, and how
+-- long a written one is. Assumes nothing.
 use mathlib.Core.Path.{_≡_, refl}
 use mathlib.Core.Logic.{_⊎_, inl, inr, ⊎-elim}
 use mathlib.Core.Bool.{Bool, true, false, cond, not}
@@ -14,6 +14,7 @@ use Rattle.tables.specs.Rows.{rows}
 use Rattle.tables.specs.Rules.{Keeps, badCommands, badLengths, firstBad, checked}
 use Rattle.tables.specs.Verdicts.{tell}
 use Rattle.tables.specs.declared.verdict.Told.{Told}
+use Rattle.tables.specs.declared.verdict.Verdict.the-variants as verdict
 use Rattle.tables.proofs.Lowest.{lowest-first, lowest-hit}
 use Rattle.tables.proofs.Rows.{end-most}
 use Rattle.tables.proofs.Rules.{first-bad}
@@ -24,13 +25,13 @@ use Rattle.replay.specs.State.{start}
 use Rattle.replay.specs.Step.{allowed, stepped}
 use Rattle.replay.specs.Writer.{goesOn, stepping, scheduleBy, schedule}
 use Rattle.replay.specs.Ending.{isBlocked, barrierSet, lowestAllowed, lowestBlocked, lowestSet, lastRun, ended, judged}
-use Rattle.replay.specs.Replay.{played}
+use Rattle.replay.specs.Replay.{played, generation}
 use Rattle.replay.specs.Schedules.{stateAfter, Complete, stopped, mismatched, Clean}
 use Rattle.replay.proofs.Programs.{threads}
-use Rattle.replay.proofs.Few.{legal-few}
+use Rattle.replay.proofs.Few.{legal-few, gens-few}
 use Rattle.replay.proofs.Ties.{Stands, command-is, command-row}
 use Rattle.replay.proofs.Judged.{clean-told}
-use Rattle.replay.proofs.Plays.{Ends, through, refused-at, mismatched-at, plays-all}
+use Rattle.replay.proofs.Plays.{Ends, through, refused-at, mismatched-at, plays-all, clean-through}
 
 pub record Placed (t : Told) : Type 0 where
   pub place : t .place ≤ mostRows
@@ -93,6 +94,13 @@ module _ {commands lengths : List ℕ} (K : Keeps commands lengths) where
       by (through S G v e) = rw v (ended-placed S (played commands lengths σ .steps) (omega (arith, e, steps-placed σ S)))
       by (refused-at e nay v) = rw v (placed 5 (played commands lengths σ .steps) (omega (arith, e .steps, steps-placed (e .ρ) (e .stands))))
       by (mismatched-at e st m v) = rw v (placed 7 _ (omega (arith, command-row K (e .stands) (e .t) st, K .few-rows)))
+
+  -- ---- a generation in a schedule that goes through
+
+  pub generation-placed : (σ : List ℕ) → played commands lengths σ .verdict ≡ verdict.Clean → (c : ℕ) → c < rows commands → generation (played commands lengths σ) c ≤ mostRows
+  generation-placed σ e c l =
+      let T = clean-through K σ e in
+      omega (arith, T .gens .same c l, gens-few K (reverse σ) c, legal-few K (reverse σ) (T .stands .legal), K .few-rows)
 
 -- ---- a legal complete schedule is told 7 to 9, or 0
 
