@@ -1,5 +1,5 @@
--- Where a verdict stands: no number of its place is above the limit of rows, and no generation. What is told of a legal complete schedule, and how
--- long a written one is. Assumes nothing.
+-- Where a verdict stands: no number of its place is above the limit of rows, and no generation. What is told of a legal complete schedule; how
+-- long a written one is, and what its entries are. Assumes nothing.
 use mathlib.Core.Path.{_≡_, refl}
 use mathlib.Core.Logic.{_⊎_, inl, inr, ⊎-elim}
 use mathlib.Core.Bool.{Bool, true, false, cond, not}
@@ -7,8 +7,8 @@ use mathlib.Core.List.{List, [], _∷_, reverse}
 use Prim.Native.Nat.{ℕ, zero, suc, _%_, _≤_, _<_}
 use native.Mathlib.Omega.{arith}
 use lib.Dec.{eqb, ltb}
-use lib.ListN.{length, length-reverse}
-use borrow.Author.Tests.{ltb-false}
+use lib.ListN.{length, getD, length-reverse}
+use borrow.Author.Tests.{ltb-true, ltb-false}
 use Rattle.tables.specs.Limits.{mostRows, barriers}
 use Rattle.tables.specs.Rows.{rows}
 use Rattle.tables.specs.Rules.{Keeps, badCommands, badLengths, firstBad, checked}
@@ -151,3 +151,26 @@ module _ (commands lengths : List ℕ) where
   pub schedule-few : length (schedule commands lengths) ≤ rows commands
   unfolding schedule
   schedule-few = schedule-by-few (lowestAllowed lengths)
+
+  -- ---- and its entries are threads
+
+  abbrev Low : List ℕ → Type 0
+  Low σ = (k : ℕ) → k < length σ → getD σ k 0 < length lengths
+
+  more-low : (a b : Bool) (t : ℕ) (σ : List ℕ) → (a ≡ true → t < length lengths) → Low σ → Low (cond a (t ∷ cond b σ []) [])
+  more-low true b t σ h f zero l = h refl
+  more-low true true t σ h f (suc k) l = f k (omega arith)
+  more-low true false t σ h f (suc k) l = absurd (omega arith)
+  more-low false b t σ h f k l = absurd (omega arith)
+
+  steps-low : (choose : Replay → ℕ) (n : ℕ) (s : Replay) → Low (stepping choose commands lengths n s)
+  unfolding stepping
+  steps-low choose zero s = λ k l. absurd (omega arith)
+  steps-low choose (suc n) s =
+      let t = choose s in
+      let d = stepped commands lengths s t in
+      more-low (ltb t (length lengths)) (goesOn (d .did)) t (stepping choose commands lengths n (d .after)) (ltb-true t (length lengths)) (steps-low choose n (d .after))
+
+  pub schedule-by-low : (choose : Replay → ℕ) (k : ℕ) → k < length (scheduleBy choose commands lengths) → getD (scheduleBy choose commands lengths) k 0 < length lengths
+  unfolding scheduleBy
+  schedule-by-low choose = steps-low choose (rows commands) start
