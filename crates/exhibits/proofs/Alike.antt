@@ -31,9 +31,9 @@ use Rattle.exhibits.proofs.Doors.{exhibits-ten, exhibits-eleven, exhibi
 abbrev pub Commands : List ℕ → Pair → Type 0
 Commands commands p = (p .first < rows commands) × (p .second < rows commands)
 
--- the pairs that a verdict's exhibits are of are commands
+-- what a verdict's exhibits are of are commands
 pub record Named (commands : List ℕ) (n : ℕ) (s : Sheet) : Type 0 where
-  pub one : n ≡ 10 → Commands commands (firstOf s)
+  pub one : n ≡ 10 → firstOf s .first < rows commands
   pub each : n ≡ 11 → (k : ℕ) → k < min (s .total) mostKept → Commands commands (getD (s .pairs) k (pair 0 0))
 
 -- ---- what is shown
@@ -82,7 +82,7 @@ module _ {commands lengths : List ℕ} (K : Keeps commands lengths) (g g′ : �
   pub exhibits-alike : (n : ℕ) (s : Sheet) → Named commands n s → exhibits commands lengths g ρ n s ≡ exhibits commands lengths g′ ρ′ n s
   exhibits-alike n s N =
       by-cases (ℕ-discrete n 10)
-      (λ (e : n ≡ 10). exhibits-ten commands lengths g ρ n s e ∙ reuse-alike (firstOf s) (N .one e .0) ∙ sym (exhibits-ten commands lengths g′ ρ′ n s e))
+      (λ (e : n ≡ 10). exhibits-ten commands lengths g ρ n s e ∙ reuse-alike (firstOf s) (N .one e) ∙ sym (exhibits-ten commands lengths g′ ρ′ n s e))
       (λ (a : n ≢ 10).
       by-cases (ℕ-discrete n 11)
       (λ (e : n ≡ 11).

@@ -1,14 +1,14 @@
 -- How long the exhibits are. Assumes nothing.
-use mathlib.Core.Path.{_≡_, refl}
+use mathlib.Core.Path.{_≡_}
 use mathlib.Core.Logic.{by-cases, ⊎-elim, _≢_}
-use mathlib.Core.Bool.{Bool, true, false, cond}
+use mathlib.Core.Bool.{Bool, true, false}
 use mathlib.Core.List.{List, [], _∷_, _++_}
 use Prim.Native.Nat.{ℕ, zero, suc, _+_, _*_, _^_, _≤_, _<_, min}
 use native.Mathlib.Decide.{ℕ-discrete}
 use native.Mathlib.Omega.{arith}
 use lib.Dec.{ltb}
 use lib.ListN.{length, getD, take, length-append}
-use borrow.Author.Tests.{eq-eqb, ne-eqb, ltb-true}
+use borrow.Author.Tests.{ne-eqb, ltb-true}
 use Rattle.tables.specs.Limits.{mostRows, mostThreads}
 use Rattle.tables.specs.Lowest.{lowest}
 use Rattle.tables.specs.Rows.{rows}
@@ -29,7 +29,7 @@ use Rattle.replay.proofs.Places.{judged-placed, generation-placed, complete-tol
 use Rattle.replay.proofs.Writing.{first-complete}
 use Rattle.exhibits.specs.declared.shown.Shown.{Shown}
 use Rattle.exhibits.specs.declared.shown.Shown.the-variants.{First, Generation, Mismatch, Deadlock, LeftSet}
-use Rattle.exhibits.specs.Shown.{differs, generationOf, otherGeneration, shownAs, shownBy}
+use Rattle.exhibits.specs.Shown.{differs, otherGeneration, shownAs, shownBy}
 use Rattle.exhibits.specs.Lines.{commandWord, firstWord, getsWord, notWord, clashWord, deadlockWord, barrierWord, moreWord, lineEnd, shownLine, partedBy, stepsLine}
 use Rattle.exhibits.specs.Exhibits.{firstOf, reuseExhibit, orderExhibit, raceExhibits, exhibits}
 use Rattle.exhibits.proofs.Doors.{exhibits-ten, exhibits-eleven, exhibits-none}

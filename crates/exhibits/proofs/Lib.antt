@@ -1,5 +1,6 @@
 -- Read in this order: Showing (what a schedule shows, from how it is judged); Along (bytes put part by part); Apart (the schedules as they are written);
--- Doors (the exhibits of a verdict, by its number); Alike (of what they are made); Fits (how long they are).
+-- Doors (the exhibits of a verdict, by its number); Alike (they ask no more than what is said of rows); Fits (how long they are).
+-- That nothing else meets the contract of `put_exhibits` is `puts-unique` of printing.
 pub mod Showing
 pub mod Along
 pub mod Apart

@@ -1,12 +1,10 @@
 -- What a schedule shows, from how it is judged. Assumes nothing.
-use mathlib.Core.Path.{_≡_, sym, ap, _∙_}
+use mathlib.Core.Path.{_≡_, ap, _∙_}
 use mathlib.Core.Logic.{_≢_}
 use mathlib.Core.Bool.{not}
 use mathlib.Core.List.{List}
 use Prim.Native.Nat.{ℕ, _≤_, _<_}
-use native.Mathlib.Omega.{arith}
 use borrow.Author.Tests.{eq-eqb, ne-eqb, lt-ltb, le-ltb}
-use Rattle.tables.specs.Lowest.{lowest}
 use Rattle.tables.specs.Rows.{rows}
 use Rattle.tables.specs.Rules.{Keeps}
 use Rattle.tables.specs.Verdicts.{numbered}
@@ -16,7 +14,6 @@ use Rattle.rooms.specs.Rooms.{numberAt}
 use Rattle.replay.specs.declared.offered.Judged.{Judged}
 use Rattle.replay.specs.Doors.{Replays}
 use Rattle.replay.proofs.Scans.{Scanned, scan-found, scan-end}
-use Rattle.exhibits.specs.declared.shown.Shown.{Shown}
 use Rattle.exhibits.specs.declared.shown.Shown.the-variants.{Generation, Mismatch, Deadlock, LeftSet}
 use Rattle.exhibits.specs.declared.shown.End.{End}
 use Rattle.exhibits.specs.Shown.{differs, generationOf, otherGeneration, shownBy, Ended}

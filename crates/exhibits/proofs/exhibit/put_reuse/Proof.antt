@@ -1,7 +1,5 @@
 -- `put_reuse` meets its contract: what the schedule shows, and the schedule from the front of its room. Assumes nothing.
 use mathlib.Core.Path.{ap, _∙_}
-use mathlib.Core.List.{List}
-use Prim.Native.Nat.{ℕ}
 use borrow.Author.Needs.{needs}
 use Rattle.printing.proofs.Placing.{puts-on}
 use Rattle.exhibits.specs.Lines.{shownLine, stepsLine}
