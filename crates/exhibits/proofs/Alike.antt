@@ -3,11 +3,11 @@ use mathlib.Core.Path.{_≡_, refl, sym, ap, ap₂, _∙_}
 use mathlib.Core.Logic.{by-cases, ⊎-elim, _≢_}
 use mathlib.Core.Bool.{Bool, not}
 use mathlib.Core.List.{List, [], _∷_, _++_}
-use Prim.Native.Nat.{ℕ, zero, suc, _<_, min}
+use Prim.Native.Nat.{ℕ, suc, _<_}
 use native.Mathlib.Decide.{ℕ-discrete}
 use native.Mathlib.Omega.{arith}
 use lib.Dec.{eqb, ltb}
-use lib.ListN.{getD, take}
+use lib.ListN.{length, getD}
 use borrow.Author.Tests.{ltb-true}
 use Rattle.tables.specs.Lowest.{lowest}
 use Rattle.tables.specs.Rows.{rows}
@@ -15,7 +15,7 @@ use Rattle.tables.specs.Rules.{Keeps}
 use Rattle.relation.proofs.Truth.{split}
 use Rattle.sheet.specs.declared.Pair.{Pair}
 use Rattle.sheet.specs.declared.Sheet.{Sheet}
-use Rattle.sheet.specs.Sheet.{pair, mostKept}
+use Rattle.sheet.specs.Sheet.{pair, keptPairs, firstKept}
 use Rattle.replay.specs.Ending.{judged}
 use Rattle.replay.specs.Replay.{played, generation}
 use Rattle.replay.specs.Writer.{apartSchedule}
@@ -23,18 +23,19 @@ use Rattle.replay.proofs.Picking.{lowest-alike, apart-alike}
 use Rattle.exhibits.specs.declared.shown.Shown.{Shown}
 use Rattle.exhibits.specs.declared.shown.Shown.the-variants.{First}
 use Rattle.exhibits.specs.Shown.{differs, generationOf, otherGeneration, shownAs, shownBy}
-use Rattle.exhibits.specs.Exhibits.{exhibit, firstOf, reuseExhibit, orderExhibit, raceExhibits, exhibits}
+use Rattle.exhibits.specs.Exhibits.{exhibit, reuseExhibit, orderExhibit, raceExhibits, exhibits}
 use Rattle.exhibits.proofs.Doors.{exhibits-ten, exhibits-eleven, exhibits-none}
 
--- ---- pairs of commands
+-- ---- what is asked of the pairs
 
-abbrev pub Commands : List ℕ → Pair → Type 0
-Commands commands p = (p .first < rows commands) × (p .second < rows commands)
+-- both numbers of a pair are commands
+abbrev pub AreCommands : List ℕ → Pair → Type 0
+AreCommands commands p = (p .first < rows commands) × (p .second < rows commands)
 
--- what a verdict's exhibits are of are commands
+-- the pairs that a verdict's exhibits are of are commands
 pub record Named (commands : List ℕ) (n : ℕ) (s : Sheet) : Type 0 where
-  pub one : n ≡ 10 → firstOf s .first < rows commands
-  pub each : n ≡ 11 → (k : ℕ) → k < min (s .total) mostKept → Commands commands (getD (s .pairs) k (pair 0 0))
+  pub reuse : n ≡ 10 → AreCommands commands (firstKept s)
+  pub races : n ≡ 11 → (k : ℕ) → k < length (keptPairs s) → AreCommands commands (getD (keptPairs s) k (pair 0 0))
 
 -- ---- what is shown
 
@@ -68,23 +69,21 @@ module _ {commands lengths : List ℕ} (K : Keeps commands lengths) (g g′ : �
   unfolding orderExhibit
   order-alike x y l = ap (exhibit (First x y)) (apart y x l)
 
-  races-alike : (n : ℕ) (ps : List Pair) → ((k : ℕ) → k < n → Commands commands (getD ps k (pair 0 0)))
-      → raceExhibits commands lengths ρ (take n ps) ≡ raceExhibits commands lengths ρ′ (take n ps)
+  races-alike : (ps : List Pair) → ((k : ℕ) → k < length ps → AreCommands commands (getD ps k (pair 0 0))) → raceExhibits commands lengths ρ ps ≡ raceExhibits commands lengths ρ′ ps
   unfolding raceExhibits
-  races-alike zero ps h = refl
-  races-alike (suc n) [] h = refl
-  races-alike (suc n) (p ∷ ps) h =
+  races-alike [] h = refl
+  races-alike (p ∷ ps) h =
       let (a, b) = h 0 (omega arith) in
       ap₂ (λ (u v : List ℕ). u ++ v)
       (ap₂ (λ (u v : List ℕ). u ++ v) (order-alike (p .first) (p .second) b) (order-alike (p .second) (p .first) a))
-      (races-alike n ps (λ k l. h (suc k) (omega arith)))
+      (races-alike ps (λ k l. h (suc k) (omega arith)))
 
   pub exhibits-alike : (n : ℕ) (s : Sheet) → Named commands n s → exhibits commands lengths g ρ n s ≡ exhibits commands lengths g′ ρ′ n s
   exhibits-alike n s N =
       by-cases (ℕ-discrete n 10)
-      (λ (e : n ≡ 10). exhibits-ten commands lengths g ρ n s e ∙ reuse-alike (firstOf s) (N .one e) ∙ sym (exhibits-ten commands lengths g′ ρ′ n s e))
+      (λ (e : n ≡ 10). exhibits-ten commands lengths g ρ n s e ∙ reuse-alike (firstKept s) (N .reuse e .0) ∙ sym (exhibits-ten commands lengths g′ ρ′ n s e))
       (λ (a : n ≢ 10).
       by-cases (ℕ-discrete n 11)
       (λ (e : n ≡ 11).
-      exhibits-eleven commands lengths g ρ n s e ∙ races-alike (min (s .total) mostKept) (s .pairs) (N .each e) ∙ sym (exhibits-eleven commands lengths g′ ρ′ n s e))
+      exhibits-eleven commands lengths g ρ n s e ∙ races-alike (keptPairs s) (N .races e) ∙ sym (exhibits-eleven commands lengths g′ ρ′ n s e))
       (λ (b : n ≢ 11). exhibits-none commands lengths g ρ n s a b ∙ sym (exhibits-none commands lengths g′ ρ′ n s a b)))

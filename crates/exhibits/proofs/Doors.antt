@@ -6,34 +6,42 @@ use mathlib.Core.List.{List, []}
 use Prim.Native.Nat.{ℕ}
 use lib.Dec.{eqb}
 use lib.ListN.{length}
-use borrow.Author.Tests.{eq-eqb, ne-eqb, eqb-true, not-true, not-false}
+use borrow.Author.Tests.{eq-eqb, ne-eqb, eqb-true, eqb-false, not-true, not-false}
 use Rattle.tables.specs.Rows.{rows}
 use Rattle.relation.specs.Table.{related}
 use Rattle.sheet.specs.declared.Sheet.{Sheet}
+use Rattle.sheet.specs.Sheet.{keptPairs, firstKept}
 use Rattle.rooms.specs.Refusals.{refused}
 use Rattle.rooms.specs.Rooms.{numberAt, Roomy}
 use Rattle.rooms.proofs.Refusals.{admitted}
-use Rattle.exhibits.specs.Exhibits.{keptPairs, firstOf, reuseExhibit, raceExhibits, exhibits, exhibited}
+use Rattle.exhibits.specs.Exhibits.{reuseExhibit, raceExhibits, exhibits, exhibited}
 
--- `admits` said r
-module _ (commands lengths generations relation : List ℕ) {r : Bool} (A : r ≡ eqb (refused commands lengths (length relation) (length generations) .number) 0) where
-  pub refused-none : not r ≡ true → (n : ℕ) (s : Sheet) → exhibited commands lengths generations relation n s ≡ []
+-- what `admits` said of the number of a refusal
+module _ {r : Bool} {x : ℕ} (A : r ≡ eqb x 0) where
+  pub said-admitted : not r ≡ false → x ≡ 0
+  said-admitted e = eqb-true x 0 (sym A ∙ not-false r e)
+
+  pub said-refused : not r ≡ true → x ≢ 0
+  said-refused e = eqb-false x 0 (sym A ∙ not-true r e)
+
+module _ (commands lengths generations relation : List ℕ) where
+  pub exhibited-none : refused commands lengths (length relation) (length generations) .number ≢ 0 → (n : ℕ) (s : Sheet) → exhibited commands lengths generations relation n s ≡ []
   unfolding exhibited
-  refused-none e n s = rw (sym A ∙ not-true r e)
+  exhibited-none e n s = rw (ne-eqb _ 0 e)
 
-  module _ (e : not r ≡ false) where
-    pub admitted-roomy : Roomy commands lengths generations relation
-    admitted-roomy =
-        let a = admitted commands lengths (length relation) (length generations) (eqb-true _ _ (sym A ∙ not-false r e)) in
+  module _ (z : refused commands lengths (length relation) (length generations) .number ≡ 0) where
+    pub roomy : Roomy commands lengths generations relation
+    roomy =
+        let a = admitted commands lengths (length relation) (length generations) z in
         record { keeps = a .keeps; generations-fit = a .generations-fit; relation-fits = a .relation-fits }
 
-    pub admitted-all : (n : ℕ) (s : Sheet)
+    pub exhibited-all : (n : ℕ) (s : Sheet)
         → exhibited commands lengths generations relation n s ≡ exhibits commands lengths (numberAt generations) (related relation (rows commands)) n s
     unfolding exhibited
-    admitted-all n s = rw (sym A ∙ not-false r e)
+    exhibited-all n s = rw (eq-eqb _ 0 z)
 
 module _ (commands lengths : List ℕ) (g : ℕ → ℕ) (ρ : ℕ → ℕ → Bool) (n : ℕ) (s : Sheet) where
-  pub exhibits-ten : n ≡ 10 → exhibits commands lengths g ρ n s ≡ reuseExhibit commands lengths ρ g (firstOf s)
+  pub exhibits-ten : n ≡ 10 → exhibits commands lengths g ρ n s ≡ reuseExhibit commands lengths ρ g (firstKept s)
   unfolding exhibits
   exhibits-ten e = rw (eq-eqb n 10 e)
 

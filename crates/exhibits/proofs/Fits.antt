@@ -3,11 +3,11 @@ use mathlib.Core.Path.{_≡_}
 use mathlib.Core.Logic.{by-cases, ⊎-elim, _≢_}
 use mathlib.Core.Bool.{Bool, true, false}
 use mathlib.Core.List.{List, [], _∷_, _++_}
-use Prim.Native.Nat.{ℕ, zero, suc, _+_, _*_, _^_, _≤_, _<_, min}
+use Prim.Native.Nat.{ℕ, suc, _+_, _*_, _^_, _≤_, _<_, min}
 use native.Mathlib.Decide.{ℕ-discrete}
 use native.Mathlib.Omega.{arith}
 use lib.Dec.{ltb}
-use lib.ListN.{length, getD, take, length-append}
+use lib.ListN.{length, getD, length-append, length-take}
 use borrow.Author.Tests.{ne-eqb, ltb-true}
 use Rattle.tables.specs.Limits.{mostRows, mostThreads}
 use Rattle.tables.specs.Lowest.{lowest}
@@ -17,7 +17,7 @@ use Rattle.tables.specs.declared.verdict.Told.{Told}
 use Rattle.relation.proofs.Truth.{split}
 use Rattle.sheet.specs.declared.Pair.{Pair}
 use Rattle.sheet.specs.declared.Sheet.{Sheet}
-use Rattle.sheet.specs.Sheet.{pair, mostKept}
+use Rattle.sheet.specs.Sheet.{pair, mostKept, keptPairs, firstKept}
 use Rattle.printing.specs.Figures.{figures}
 use Rattle.printing.proofs.Numerals.{figures-long}
 use Rattle.replay.specs.Ending.{judged}
@@ -31,9 +31,9 @@ use Rattle.exhibits.specs.declared.shown.Shown.{Shown}
 use Rattle.exhibits.specs.declared.shown.Shown.the-variants.{First, Generation, Mismatch, Deadlock, LeftSet}
 use Rattle.exhibits.specs.Shown.{differs, otherGeneration, shownAs, shownBy}
 use Rattle.exhibits.specs.Lines.{commandWord, firstWord, getsWord, notWord, clashWord, deadlockWord, barrierWord, moreWord, lineEnd, shownLine, partedBy, stepsLine}
-use Rattle.exhibits.specs.Exhibits.{firstOf, reuseExhibit, orderExhibit, raceExhibits, exhibits}
+use Rattle.exhibits.specs.Exhibits.{reuseExhibit, orderExhibit, raceExhibits, exhibits}
 use Rattle.exhibits.proofs.Doors.{exhibits-ten, exhibits-eleven, exhibits-none}
-use Rattle.exhibits.proofs.Alike.{Commands, Named}
+use Rattle.exhibits.proofs.Alike.{AreCommands, Named}
 
 -- ---- a line in words has at most 64 bytes
 
@@ -168,30 +168,29 @@ module _ {commands lengths : List ℕ} (K : Keeps commands lengths) where
 
   -- ---- thirty-two exhibits at most
 
-  races-short : (ρ : ℕ → ℕ → Bool) (n : ℕ) (ps : List Pair) → ((k : ℕ) → k < n → Commands commands (getD ps k (pair 0 0)))
-      → length (raceExhibits commands lengths ρ (take n ps)) ≤ n * 3200
+  races-short : (ρ : ℕ → ℕ → Bool) (ps : List Pair) → ((k : ℕ) → k < length ps → AreCommands commands (getD ps k (pair 0 0)))
+      → length (raceExhibits commands lengths ρ ps) ≤ length ps * 3200
   unfolding raceExhibits
-  races-short ρ zero ps h = omega arith
-  races-short ρ (suc n) [] h = omega arith
-  races-short ρ (suc n) (p ∷ ps) h =
+  races-short ρ [] h = omega arith
+  races-short ρ (p ∷ ps) h =
       let (a, b) = h 0 (omega arith) in
       let u = orderExhibit commands lengths ρ (p .first) (p .second) in
       let v = orderExhibit commands lengths ρ (p .second) (p .first) in
       omega (
         arith,
-        length-append (u ++ v) (raceExhibits commands lengths ρ (take n ps)),
+        length-append (u ++ v) (raceExhibits commands lengths ρ ps),
         length-append u v,
         order-short ρ (p .first) (p .second) a b,
         order-short ρ (p .second) (p .first) b a,
-        races-short ρ n ps (λ k l. h (suc k) (omega arith)),
+        races-short ρ ps (λ k l. h (suc k) (omega arith)),
       )
 
   pub exhibits-short : (g : ℕ → ℕ) → ((c : ℕ) → c < rows commands → g c < 10 ^ 10) → (ρ : ℕ → ℕ → Bool) (n : ℕ) (s : Sheet) → Named commands n s
       → length (exhibits commands lengths g ρ n s) ≤ 32 * 1600
   unfolding mostKept
   exhibits-short g small ρ n s N =
-      by-cases (ℕ-discrete n 10) (λ (e : n ≡ 10). rw (exhibits-ten commands lengths g ρ n s e) (omega (arith, reuse-short g small ρ (firstOf s))))
+      by-cases (ℕ-discrete n 10) (λ (e : n ≡ 10). rw (exhibits-ten commands lengths g ρ n s e) (omega (arith, reuse-short g small ρ (firstKept s))))
       (λ (a : n ≢ 10).
       by-cases (ℕ-discrete n 11)
-      (λ (e : n ≡ 11). rw (exhibits-eleven commands lengths g ρ n s e) (omega (arith, races-short ρ (min (s .total) 16) (s .pairs) (N .each e))))
+      (λ (e : n ≡ 11). rw (exhibits-eleven commands lengths g ρ n s e) (omega (arith, races-short ρ (keptPairs s) (N .races e), length-take (min (s .total) 16) (s .pairs))))
       (λ (b : n ≢ 11). rw (exhibits-none commands lengths g ρ n s a b) (omega arith)))

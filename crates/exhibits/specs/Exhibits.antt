@@ -1,14 +1,14 @@
 -- What is printed of evidence: for each schedule a line in words that says what it shows, and below it the schedule.
 use mathlib.Core.Bool.{Bool, cond}
 use mathlib.Core.List.{List, [], _∷_, _++_}
-use Prim.Native.Nat.{ℕ, min}
+use Prim.Native.Nat.{ℕ}
 use lib.Dec.{eqb}
-use lib.ListN.{length, getD, take}
+use lib.ListN.{length}
 use Rattle.tables.specs.Rows.{rows}
 use Rattle.relation.specs.Table.{related}
 use Rattle.sheet.specs.declared.Pair.{Pair}
 use Rattle.sheet.specs.declared.Sheet.{Sheet}
-use Rattle.sheet.specs.Sheet.{pair, mostKept}
+use Rattle.sheet.specs.Sheet.{keptPairs, firstKept}
 use Rattle.rooms.specs.Refusals.{refused}
 use Rattle.rooms.specs.Rooms.{numberAt}
 use Rattle.replay.specs.Writer.{apartSchedule}
@@ -16,13 +16,6 @@ use Rattle.exhibits.specs.declared.shown.Shown.{Shown}
 use Rattle.exhibits.specs.declared.shown.Shown.the-variants.{First}
 use Rattle.exhibits.specs.Shown.{shownBy}
 use Rattle.exhibits.specs.Lines.{shownLine, stepsLine}
-
--- as many pairs of a sheet as the smaller of its total and sixteen, and the first
-abbrev pub keptPairs : Sheet → List Pair
-keptPairs s = take (min (s .total) mostKept) (s .pairs)
-
-abbrev pub firstOf : Sheet → Pair
-firstOf s = getD (s .pairs) 0 (pair 0 0)
 
 -- a schedule below what it shows
 abbrev pub exhibit : Shown → List ℕ → List ℕ
@@ -50,7 +43,7 @@ module _ (commands lengths : List ℕ) (ρ : ℕ → ℕ → Bool) where
 -- 10: of the sheet's first pair. 11: of each pair that it keeps. Other verdicts have no exhibits.
 unfoldable pub exhibits : (commands lengths : List ℕ) (g : ℕ → ℕ) (ρ : ℕ → ℕ → Bool) → ℕ → Sheet → List ℕ
 exhibits commands lengths g ρ n s =
-    cond (eqb n 10) (reuseExhibit commands lengths ρ g (firstOf s)) (cond (eqb n 11) (raceExhibits commands lengths ρ (keptPairs s)) [])
+    cond (eqb n 10) (reuseExhibit commands lengths ρ g (firstKept s)) (cond (eqb n 11) (raceExhibits commands lengths ρ (keptPairs s)) [])
 
 -- over lent rooms; where tables or rooms are refused there are no exhibits
 unfoldable pub exhibited : (commands lengths generations relation : List ℕ) → ℕ → Sheet → List ℕ

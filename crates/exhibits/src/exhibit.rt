@@ -4,11 +4,11 @@ ghost use Prim.Native.Nat.{_-_, _^_, min};
 ghost use Rattle.tables.specs.Rows.{rows};
 ghost use Rattle.tables.specs.Rules.{Keeps};
 ghost use Rattle.relation.specs.Table.{related};
-ghost use Rattle.sheet.specs.Sheet.{mostKept, pair};
+ghost use Rattle.sheet.specs.Sheet.{pair, keptPairs};
 ghost use Rattle.rooms.specs.Rooms.{numberAt, Roomy};
 ghost use Rattle.replay.specs.Writer.{apartSchedule, FilledBy, Fits};
 ghost use Rattle.printing.specs.Putting.{PutsBytes};
-ghost use Rattle.exhibits.specs.Exhibits.{reuseExhibit, orderExhibit, raceExhibits, keptPairs, exhibited};
+ghost use Rattle.exhibits.specs.Exhibits.{reuseExhibit, orderExhibit, raceExhibits, exhibited};
 use crate::line::put_shown;
 use crate::line::put_steps;
 use crate::shown::Shown;
@@ -16,6 +16,7 @@ use crate::shown::shown_by;
 use replay::write_apart;
 use rooms::admits;
 use sheet::Sheet;
+use sheet::kept;
 use tables::Table;
 
 // A command's number as the writer takes it. One that is too large is no command's, and neither is the one put for it.
@@ -84,16 +85,6 @@ fn put_reuse(
     put_steps(room, next, &schedule[..steps])
 }
 
-// So many of the pairs are kept.
-fn how_many(total: usize) -> usize
-    ensures { λ r. ⌜ r ≡ min total mostKept ⌝ }
-{
-    if total < Sheet::KEPT {
-        return total;
-    }
-    Sheet::KEPT
-}
-
 // Of each pair that a sheet keeps, both ways.
 fn put_races(
     commands: &[u32],
@@ -106,7 +97,7 @@ fn put_races(
     requires { ⌜ Keeps (now commands) (now lengths) ⌝ }
     ensures { λ r. ⌜ PutsBytes (now (room .entry)) (now (room .exit)) at (raceExhibits (now (commands .entry)) (now (lengths .entry)) (related (now (relation .entry)) (rows (now (commands .entry)))) (keptPairs sheet)) r ⌝ }
 {
-    let n = how_many(sheet.total);
+    let n = kept(sheet.total);
     let mut next = at;
     let mut k = 0;
     while k < n {

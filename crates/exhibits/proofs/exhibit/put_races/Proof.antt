@@ -26,7 +26,7 @@ loop-holds : tie.Need-loop-holds Inv-loop μ-loop
 unfolding mostKept
 loop-holds c =
     let s = c .before .before .before .before .before in
-    (along-none _ _ _, omega arith, omega (arith, c .how-many .ensures), sym (length-map (s .args .t4 .pairs) _) ∙ s .good .1 .1 .1 .0 .1 .1 .0 .1 .0 .1)
+    (along-none _ _ _, omega arith, omega (arith, c .kept .ensures), sym (length-map (s .args .t4 .pairs) _) ∙ s .good .1 .1 .1 .0 .1 .1 .0 .1 .0 .1)
 
 loop-again : tie.Need-loop-again Inv-loop μ-loop
 loop-again c =
@@ -46,7 +46,7 @@ same-length c = along-long (c .before .loop .inv .0)
 returns : tie.Need-returns Inv-loop μ-loop
 returns c =
     let l = c .before .loop in
-    rw (c .before .before .how-many .ensures) at
+    rw (c .before .before .kept .ensures) at
     (along-end (l .inv .0) (races-end _ _ _ _ _ (l .k) (omega (arith, l .inv .2, l .inv .3)) (c .loop-test .left)))
 
 pub put-races-spec : {M : Type 1} → statement M
