@@ -1,5 +1,5 @@
 -- Read in this order: Showing (what a schedule shows, from how it is judged); Along (bytes put part by part); Apart (the schedules as they are written);
--- Doors (the exhibits of a verdict, by its number); Alike (they ask no more than what is said of rows); Fits (how long they are).
+-- Doors (the exhibits of a verdict, by its number); Alike (they ask no more than what is said of rows); Fits (how long they are); True (what is said above a schedule is so).
 -- That nothing else meets the contract of `put_exhibits` is `puts-unique` of printing.
 pub mod Showing
 pub mod Along
@@ -7,3 +7,4 @@ pub mod Apart
 pub mod Doors
 pub mod Alike
 pub mod Fits
+pub mod True

@@ -1,8 +1,9 @@
 -- What a schedule shows, judged again.
 use mathlib.Core.Path.{_≡_}
+use mathlib.Core.Logic.{_≢_}
 use mathlib.Core.Bool.{Bool, cond, not}
 use mathlib.Core.List.{List}
-use Prim.Native.Nat.{ℕ, _≤_}
+use Prim.Native.Nat.{ℕ, _≤_, _<_}
 use lib.Dec.{eqb, ltb}
 use lib.ListN.{length}
 use Rattle.tables.specs.Lowest.{lowest}
@@ -11,8 +12,9 @@ use Rattle.tables.specs.Rules.{Keeps}
 use Rattle.tables.specs.declared.verdict.Told.{Told}
 use Rattle.replay.specs.Ending.{judged}
 use Rattle.replay.specs.Replay.{played, generation}
+use Rattle.replay.specs.Schedules.{Precedes}
 use Rattle.exhibits.specs.declared.shown.Shown.{Shown}
-use Rattle.exhibits.specs.declared.shown.Shown.the-variants.{Generation, Mismatch, Deadlock, LeftSet}
+use Rattle.exhibits.specs.declared.shown.Shown.the-variants.{First, Generation, Mismatch, Deadlock, LeftSet}
 use Rattle.exhibits.specs.declared.shown.End.{End}
 
 -- ---- another generation
@@ -40,6 +42,16 @@ shownAs t other =
 unfoldable pub shownBy : (commands lengths : List ℕ) (g : ℕ → ℕ) (τ : List ℕ) → Shown
 shownBy commands lengths g τ =
     shownAs (judged lengths (played commands lengths τ)) (otherGeneration (generation (played commands lengths τ)) g (rows commands))
+
+-- ---- what is said is so
+
+-- what a line says of the schedule τ below it, against the generations g
+unfoldable pub Says : (commands lengths : List ℕ) (g : ℕ → ℕ) (τ : List ℕ) → Shown → Type 0
+Says commands lengths g τ (First x y) = Precedes commands lengths x y τ
+Says commands lengths g τ (Generation c h k) = (c < rows commands) × (generation (played commands lengths τ) c ≡ h) × (g c ≡ k) × (h ≢ k)
+Says commands lengths g τ (Mismatch c) = (judged lengths (played commands lengths τ) .number ≡ 7) × (judged lengths (played commands lengths τ) .place ≡ c)
+Says commands lengths g τ (Deadlock c) = (judged lengths (played commands lengths τ) .number ≡ 8) × (judged lengths (played commands lengths τ) .place ≡ c)
+Says commands lengths g τ (LeftSet b) = (judged lengths (played commands lengths τ) .number ≡ 9) × (judged lengths (played commands lengths τ) .place ≡ b)
 
 -- ---- what the parts ask for, and answer
 
