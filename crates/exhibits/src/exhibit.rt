@@ -1,6 +1,4 @@
 // Schedules that are evidence, each below a line that says what it shows.
-ghost use mathlib.Core.Path.{_≡_};
-ghost use Prim.Native.Nat.{_-_, _^_, min};
 ghost use Rattle.tables.specs.Rows.{rows};
 ghost use Rattle.tables.specs.Rules.{Keeps};
 ghost use Rattle.relation.specs.Table.{related};
@@ -19,16 +17,6 @@ use sheet::Sheet;
 use sheet::kept;
 use tables::Table;
 
-// A command's number as the writer takes it. One that is too large is no command's, and neither is the one put for it.
-fn narrow(c: usize) -> u32
-    ensures { λ r. ⌜ r ≡ min c (2 ^ 32 - 1) ⌝ }
-{
-    if c < u32::MAX as usize {
-        return c as u32;
-    }
-    u32::MAX
-}
-
 // The schedule in which d and what c does not reach go first, from the front of a room; answers its length.
 fn fill_apart(
     commands: &[u32],
@@ -41,7 +29,7 @@ fn fill_apart(
     requires { ⌜ Fits (now commands) (now lengths) (now room) ⌝ }
     ensures { λ r. ⌜ FilledBy (apartSchedule (now (commands .entry)) (now (lengths .entry)) (related (now (relation .entry)) (rows (now (commands .entry)))) c d) (now (room .entry)) (now (room .exit)) r ⌝ }
 {
-    let written = write_apart(commands, lengths, relation, narrow(c), narrow(d), room);
+    let written = write_apart(commands, lengths, relation, c, d, room);
     written.length
 }
 

@@ -19,6 +19,7 @@ fn put_within(room: &mut [u8], at: usize, before: &[u8], n: usize, after: &[u8])
     put(room, rest, after)
 }
 
+// One command before another.
 fn put_first(room: &mut [u8], at: usize, x: usize, y: usize) -> usize
     ensures { λ r. ⌜ PutsBytes (now (room .entry)) (now (room .exit)) at (shownLine (First x y)) r ⌝ }
 {
@@ -26,6 +27,7 @@ fn put_first(room: &mut [u8], at: usize, x: usize, y: usize) -> usize
     put_within(room, next, b"", y, b"\n")
 }
 
+// Another generation than the one offered.
 fn put_generation(room: &mut [u8], at: usize, c: usize, g: u32, h: u32) -> usize
     ensures { λ r. ⌜ PutsBytes (now (room .entry)) (now (room .exit)) at (shownLine (Generation c g h)) r ⌝ }
 {

@@ -7,8 +7,7 @@ use Rattle.exhibits.proofs.exhibit.fill_apart.Tie as tie
 returns : tie.Need-returns
 returns c =
     let w = c .before .before in
-    let n = w .before .before in
-    fills (n .before .before .before .before .before .before .pre) _ _ _ (n .before .narrow .ensures) (n .narrow2 .ensures) (w .write-apart .ensures)
+    fills (w .before .before .before .before .before .before .pre) (w .write-apart .ensures)
 
 pub fill-apart-spec : {M : Type 1} → statement M
-fill-apart-spec = tie.close (tie.spec (λ c κs. search needs) (λ c κs. search needs) (λ c κs. search needs) (λ c. search needs) returns)
+fill-apart-spec = tie.close (tie.spec (λ c κs. search needs) (λ c. search needs) returns)
