@@ -1,18 +1,20 @@
--- A legal schedule is no longer than the tables: each of its steps runs another command. Assumes nothing.
+-- A legal schedule is no longer than the tables: each of its steps runs another command. So generations are few too. Assumes nothing.
 use mathlib.Core.Path.{_≡_, refl, ap, sym, _∙_}
-use mathlib.Core.Bool.{true}
+use mathlib.Core.Bool.{true, false}
 use mathlib.Core.List.{List, [], _∷_}
+use mathlib.Core.Logic.{by-cases, ⊎-elim, _≢_}
 use Prim.Native.Nat.{ℕ, suc, _≤_, _<_}
+use native.Mathlib.Decide.{ℕ-discrete}
 use native.Mathlib.Omega.{arith}
 use lib.ListN.{length}
 use Rattle.tables.specs.Rows.{rows}
 use Rattle.tables.specs.Rules.{Keeps}
-use Rattle.relation.proofs.Truth.{clashing}
+use Rattle.relation.proofs.Truth.{clashing, split}
 use Rattle.schedules.specs.Tally.{tally}
 use Rattle.schedules.specs.Machine.{Program, State, next, state}
-use Rattle.schedules.specs.Threads.{Threads, at, after, Steps, Legal}
+use Rattle.schedules.specs.Threads.{Threads, at, after, gens, Steps, Legal}
 use Rattle.schedules.proofs.Tally.{tally-one, tally-none, tally-all, tally-most}
-use Rattle.schedules.proofs.Step.{ran-same, ran-other, done-top}
+use Rattle.schedules.proofs.Step.{ran-same, ran-other, gen-same, gen-idle, gen-other, done-top}
 use Rattle.schedules.proofs.Threads.{stand, may}
 use Rattle.replay.specs.Program.{program}
 use Rattle.replay.proofs.Programs.{threads}
@@ -55,3 +57,16 @@ module _ {commands lengths : List ℕ} (K : Keeps commands lengths) where
   unfolding Rattle.schedules.specs.Threads.commands state
   done-few [] b = omega arith
   done-few (t ∷ υ) b = omega (arith, done-few υ b, done-top P (after P H υ) (at P H υ t) b)
+
+  -- no generation is above the number of steps
+  pub gens-few : (υ : List ℕ) (c : ℕ) → gens P H υ c ≤ length υ
+  unfolding Rattle.schedules.specs.Threads.commands state
+  gens-few [] c = omega arith
+  gens-few (t ∷ υ) c =
+      let s = after P H υ in
+      let d = at P H υ t in
+      by-cases (ℕ-discrete d c)
+      (λ (e : d ≡ c).
+      ⊎-elim (λ (r : P .registers d ≡ true). omega (arith, gen-same P s d c e r, done-few υ (P .barrier d)))
+      (λ (r : P .registers d ≡ false). omega (arith, gen-idle P s d c e r)) (split (P .registers d)))
+      (λ (n : d ≢ c). omega (arith, gen-other P s d c n, gens-few υ c))

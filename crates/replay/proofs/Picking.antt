@@ -66,7 +66,7 @@ module _ {choose other : Replay → ℕ} (alike : (s : Replay) → choose s ≡ 
   unfolding scheduleBy
   schedule-alike = stepping-alike (rows commands) start
 
-lowest-alike : (p q : ℕ → Bool) (n : ℕ) → ((k : ℕ) → k < n → p k ≡ q k) → lowest p n ≡ lowest q n
+pub lowest-alike : (p q : ℕ → Bool) (n : ℕ) → ((k : ℕ) → k < n → p k ≡ q k) → lowest p n ≡ lowest q n
 lowest-alike p q n e =
     let L = lowest-first q n in
     lowest-is p (record {

@@ -1,5 +1,5 @@
--- Where a verdict stands: no number of its place is above the limit of rows. What is told of a legal complete schedule, and how long
--- a written one is. Assumes nothing.
+-- Where a verdict stands: no number of its place is above the limit of rows, and no generation. What is told of a legal complete schedule; how
+-- long a written one is, and what its entries are. Assumes nothing.
 use mathlib.Core.Path.{_≡_, refl}
 use mathlib.Core.Logic.{_⊎_, inl, inr, ⊎-elim}
 use mathlib.Core.Bool.{Bool, true, false, cond, not}
@@ -7,13 +7,14 @@ use mathlib.Core.List.{List, [], _∷_, reverse}
 use Prim.Native.Nat.{ℕ, zero, suc, _%_, _≤_, _<_}
 use native.Mathlib.Omega.{arith}
 use lib.Dec.{eqb, ltb}
-use lib.ListN.{length, length-reverse}
-use borrow.Author.Tests.{ltb-false}
+use lib.ListN.{length, getD, length-reverse}
+use borrow.Author.Tests.{ltb-true, ltb-false}
 use Rattle.tables.specs.Limits.{mostRows, barriers}
 use Rattle.tables.specs.Rows.{rows}
 use Rattle.tables.specs.Rules.{Keeps, badCommands, badLengths, firstBad, checked}
 use Rattle.tables.specs.Verdicts.{tell}
 use Rattle.tables.specs.declared.verdict.Told.{Told}
+use Rattle.tables.specs.declared.verdict.Verdict.the-variants as verdict
 use Rattle.tables.proofs.Lowest.{lowest-first, lowest-hit}
 use Rattle.tables.proofs.Rows.{end-most}
 use Rattle.tables.proofs.Rules.{first-bad}
@@ -24,13 +25,13 @@ use Rattle.replay.specs.State.{start}
 use Rattle.replay.specs.Step.{allowed, stepped}
 use Rattle.replay.specs.Writer.{goesOn, stepping, scheduleBy, schedule}
 use Rattle.replay.specs.Ending.{isBlocked, barrierSet, lowestAllowed, lowestBlocked, lowestSet, lastRun, ended, judged}
-use Rattle.replay.specs.Replay.{played}
+use Rattle.replay.specs.Replay.{played, generation}
 use Rattle.replay.specs.Schedules.{stateAfter, Complete, stopped, mismatched, Clean}
 use Rattle.replay.proofs.Programs.{threads}
-use Rattle.replay.proofs.Few.{legal-few}
+use Rattle.replay.proofs.Few.{legal-few, gens-few}
 use Rattle.replay.proofs.Ties.{Stands, command-is, command-row}
 use Rattle.replay.proofs.Judged.{clean-told}
-use Rattle.replay.proofs.Plays.{Ends, through, refused-at, mismatched-at, plays-all}
+use Rattle.replay.proofs.Plays.{Ends, through, refused-at, mismatched-at, plays-all, clean-through}
 
 pub record Placed (t : Told) : Type 0 where
   pub place : t .place ≤ mostRows
@@ -94,6 +95,13 @@ module _ {commands lengths : List ℕ} (K : Keeps commands lengths) where
       by (refused-at e nay v) = rw v (placed 5 (played commands lengths σ .steps) (omega (arith, e .steps, steps-placed (e .ρ) (e .stands))))
       by (mismatched-at e st m v) = rw v (placed 7 _ (omega (arith, command-row K (e .stands) (e .t) st, K .few-rows)))
 
+  -- ---- a generation in a schedule that goes through
+
+  pub generation-placed : (σ : List ℕ) → played commands lengths σ .verdict ≡ verdict.Clean → (c : ℕ) → c < rows commands → generation (played commands lengths σ) c ≤ mostRows
+  generation-placed σ e c l =
+      let T = clean-through K σ e in
+      omega (arith, T .gens .same c l, gens-few K (reverse σ) c, legal-few K (reverse σ) (T .stands .legal), K .few-rows)
+
 -- ---- a legal complete schedule is told 7 to 9, or 0
 
 abbrev Told₇ : ℕ → Type 0
@@ -143,3 +151,26 @@ module _ (commands lengths : List ℕ) where
   pub schedule-few : length (schedule commands lengths) ≤ rows commands
   unfolding schedule
   schedule-few = schedule-by-few (lowestAllowed lengths)
+
+  -- ---- and its entries are threads
+
+  abbrev Low : List ℕ → Type 0
+  Low σ = (k : ℕ) → k < length σ → getD σ k 0 < length lengths
+
+  more-low : (a b : Bool) (t : ℕ) (σ : List ℕ) → (a ≡ true → t < length lengths) → Low σ → Low (cond a (t ∷ cond b σ []) [])
+  more-low true b t σ h f zero l = h refl
+  more-low true true t σ h f (suc k) l = f k (omega arith)
+  more-low true false t σ h f (suc k) l = absurd (omega arith)
+  more-low false b t σ h f k l = absurd (omega arith)
+
+  steps-low : (choose : Replay → ℕ) (n : ℕ) (s : Replay) → Low (stepping choose commands lengths n s)
+  unfolding stepping
+  steps-low choose zero s = λ k l. absurd (omega arith)
+  steps-low choose (suc n) s =
+      let t = choose s in
+      let d = stepped commands lengths s t in
+      more-low (ltb t (length lengths)) (goesOn (d .did)) t (stepping choose commands lengths n (d .after)) (ltb-true t (length lengths)) (steps-low choose n (d .after))
+
+  pub schedule-by-low : (choose : Replay → ℕ) (k : ℕ) → k < length (scheduleBy choose commands lengths) → getD (scheduleBy choose commands lengths) k 0 < length lengths
+  unfolding scheduleBy
+  schedule-by-low choose = steps-low choose (rows commands) start

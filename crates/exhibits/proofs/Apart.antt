@@ -1,0 +1,39 @@
+-- A schedule that is written stands at the front of its room. Assumes nothing.
+use mathlib.Core.Path.{_≡_, sym, ap, _∙_}
+use mathlib.Core.List.{List}
+use Prim.Native.Nat.{ℕ, _≤_}
+use native.Mathlib.Omega.{arith}
+use lib.ListN.{length, take, drop, replicate, length-append, length-replicate}
+use lib.Seq.{length-take-le, take-at}
+use borrow.Author.Tests.{le-ltb}
+use Rattle.tables.specs.Limits.{mostRows}
+use Rattle.tables.specs.Rows.{rows}
+use Rattle.tables.specs.Rules.{Keeps}
+use Rattle.tables.specs.declared.verdict.Told.{Told}
+use Rattle.tables.proofs.Rules.{kept}
+use Rattle.replay.specs.declared.writer.Written.{Written}
+use Rattle.replay.specs.Writer.{unwritten, FilledBy, Fits}
+use Rattle.replay.specs.Doors.{Writes}
+
+-- a full room of zeros has place for a schedule
+pub full-room : {commands lengths : List ℕ} → Keeps commands lengths → Fits commands lengths (replicate 512 0)
+unfolding mostRows
+full-room K = record { keeps = K; fits = omega (arith, K .few-rows, length-replicate {A = ℕ} 512 0) }
+
+-- where there is place, it is written
+pub fills : {σ commands lengths room after : List ℕ} {w : Written} → Fits commands lengths room → Writes σ commands lengths room after w → FilledBy σ room after (w .length)
+unfolding unwritten
+fills {commands = commands} {lengths = lengths} {room = room} F W =
+    W .wrote
+    (ap (λ (t : Told). t .number) (W .verdict) ∙ rw (kept commands lengths (F .keeps), le-ltb (length room) (rows commands) (F .fits)))
+
+-- the front of the room is the schedule
+module _ {σ room after : List ℕ} {n : ℕ} (B : FilledBy σ room after n) where
+  pub front-fits : n ≤ length after
+  front-fits = omega (arith, B .long, ap length (B .room), length-append σ (drop n room))
+
+  pub front-long : n ≡ length (take n after)
+  front-long = sym (length-take-le n after front-fits)
+
+  pub front-is : take n after ≡ σ
+  front-is = ap (take n) (B .room) ∙ take-at σ (drop n room) n (sym (B .long))

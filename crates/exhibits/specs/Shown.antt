@@ -1,0 +1,66 @@
+-- What a schedule shows, judged again.
+use mathlib.Core.Path.{_≡_}
+use mathlib.Core.Logic.{_≢_}
+use mathlib.Core.Bool.{Bool, cond, not}
+use mathlib.Core.List.{List}
+use Prim.Native.Nat.{ℕ, _≤_, _<_}
+use lib.Dec.{eqb, ltb}
+use lib.ListN.{length}
+use Rattle.tables.specs.Lowest.{lowest}
+use Rattle.tables.specs.Rows.{rows}
+use Rattle.tables.specs.Rules.{Keeps}
+use Rattle.tables.specs.declared.verdict.Told.{Told}
+use Rattle.replay.specs.Ending.{judged}
+use Rattle.replay.specs.Replay.{played, generation}
+use Rattle.replay.specs.Schedules.{Precedes}
+use Rattle.exhibits.specs.declared.shown.Shown.{Shown}
+use Rattle.exhibits.specs.declared.shown.Shown.the-variants.{First, Generation, Mismatch, Deadlock, LeftSet}
+use Rattle.exhibits.specs.declared.shown.End.{End}
+
+-- ---- another generation
+
+-- command c has other generations in f and in g
+abbrev pub differs : (f g : ℕ → ℕ) → ℕ → Bool
+differs f g c = not (eqb (f c) (g c))
+
+-- command c has generation f c, and g c was offered; where there is no such command below m, m itself
+abbrev pub generationOf : (f g : ℕ → ℕ) (m c : ℕ) → Shown
+generationOf f g m c = cond (ltb c m) (Generation c (f c) (g c)) (Generation m 0 0)
+
+-- the lowest command below m whose generation in f is not the one in g
+unfoldable pub otherGeneration : (f g : ℕ → ℕ) → ℕ → Shown
+otherGeneration f g m = generationOf f g m (lowest (differs f g) m)
+
+-- ---- the end
+
+-- by how it ended: in 7 at a command, in 8 at a command, in 9 at a barrier; and else with another generation
+abbrev pub shownAs : Told → Shown → Shown
+shownAs t other =
+    cond (eqb (t .number) 7) (Mismatch (t .place)) (cond (eqb (t .number) 8) (Deadlock (t .place)) (cond (eqb (t .number) 9) (LeftSet (t .place)) other))
+
+-- what a schedule τ shows against the generations g
+unfoldable pub shownBy : (commands lengths : List ℕ) (g : ℕ → ℕ) (τ : List ℕ) → Shown
+shownBy commands lengths g τ =
+    shownAs (judged lengths (played commands lengths τ)) (otherGeneration (generation (played commands lengths τ)) g (rows commands))
+
+-- ---- what is said is so
+
+-- what a line says of the schedule τ below it, against the generations g
+unfoldable pub Says : (commands lengths : List ℕ) (g : ℕ → ℕ) (τ : List ℕ) → Shown → Type 0
+Says commands lengths g τ (First x y) = Precedes commands lengths x y τ
+Says commands lengths g τ (Generation c h k) = (c < rows commands) × (generation (played commands lengths τ) c ≡ h) × (g c ≡ k) × (h ≢ k)
+Says commands lengths g τ (Mismatch c) = (judged lengths (played commands lengths τ) .number ≡ 7) × (judged lengths (played commands lengths τ) .place ≡ c)
+Says commands lengths g τ (Deadlock c) = (judged lengths (played commands lengths τ) .number ≡ 8) × (judged lengths (played commands lengths τ) .place ≡ c)
+Says commands lengths g τ (LeftSet b) = (judged lengths (played commands lengths τ) .number ≡ 9) × (judged lengths (played commands lengths τ) .place ≡ b)
+
+-- ---- what the parts ask for, and answer
+
+-- tables that pass, with a generation for each command
+pub record Offered (commands lengths generations : List ℕ) : Type 0 where
+  pub keeps : Keeps commands lengths
+  pub fit : rows commands ≤ length generations
+
+-- how a schedule ended, by the number of its verdict
+pub record Ended (commands lengths σ : List ℕ) (e : End) : Type 0 where
+  pub told : e .told ≡ judged lengths (played commands lengths σ)
+  pub generations : e .generations ≡ played commands lengths σ .generations
