@@ -79,7 +79,7 @@ module _ {commands lengths σ : List ℕ} {n : ℕ} {s : Sheet} (G : Gives comma
         × (orElse (judged lengths (played commands lengths σ)) (faultTold commands lengths g (reach P g)) ≡ faultTold commands lengths g (reach P g))
     both = told-faults (judged lengths (played commands lengths σ)) _ (judged-small (G .keeps) σ) (omega (arith, G .told))
 
-    clean : Clean commands lengths σ
+    pub clean : Clean commands lengths σ
     clean = clean-told commands lengths σ (both .0)
 
     number-is : n ≡ faultTold commands lengths g (reach P g) .number
