@@ -447,27 +447,37 @@ static void mark_printed(const struct text_review *expected, const struct shown 
     marked[FAR_LINES] += rows_of(&expected->tables) > 100;
 }
 
-/* The checker, tried on what says something else: without the last byte, and with another byte anywhere. A digit of a schedule is left, as another schedule may show the same. */
+static void must_be_seen(const struct text_review *expected, const uint8_t *bytes, size_t length, const char *what)
+{
+    size_t ignored;
+    struct shown shown = check_printed(expected, bytes, length, &ignored);
+    if (shown.flaw != NULL)
+        return;
+    shown.flaw = what;
+    fail_printed(&shown, bytes, length);
+}
+
+/* The checker, tried on what says something else: no last byte, another number in words, another byte that is no digit. Other digits in a schedule may show the same. */
 static void try_other_bytes(const struct text_review *expected, const uint8_t *evidence, size_t length)
 {
     static uint8_t other[PRINTED];
-    size_t at = below(&drawn, (uint32_t)length), lines = 0, ignored;
-    struct shown cut = check_printed(expected, evidence, length - 1, &ignored);
-    memcpy(other, evidence, length);
-    other[at] ^= (uint8_t)(1 + below(&drawn, 255));
-    for (size_t i = 0; i < at; i++)
+    static size_t in_words[PRINTED], no_digits[PRINTED];
+    uint32_t numbers = 0, others = 0, lines = 0;
+    for (size_t i = 0; i < length; i++) {
+        if (evidence[i] < '0' || evidence[i] > '9')
+            no_digits[others++] = i;
+        else if (lines % 2 == 0)
+            in_words[numbers++] = i;
         lines += evidence[i] == '\n';
-    int is_digit = evidence[at] >= '0' && evidence[at] <= '9';
-    struct shown changed = check_printed(expected, other, length, &ignored);
-    if (cut.flaw == NULL) {
-        cut.flaw = "the checker took it without its last byte";
-        fail_printed(&cut, evidence, length - 1);
     }
-    if (changed.flaw == NULL && !(lines % 2 == 1 && is_digit)) {
-        changed.flaw = "the checker took another byte";
-        changed.at = at;
-        fail_printed(&changed, other, length);
-    }
+    must_be_seen(expected, evidence, length - 1, "the checker took it without its last byte");
+    memcpy(other, evidence, length);
+    size_t at = in_words[below(&drawn, numbers)];
+    other[at] = (uint8_t)('0' + (evidence[at] - '0' + 1 + below(&drawn, 9)) % 10);
+    must_be_seen(expected, other, length, "the checker took another number");
+    other[at] = evidence[at];
+    other[no_digits[below(&drawn, others)]] ^= (uint8_t)(1 + below(&drawn, 255));
+    must_be_seen(expected, other, length, "the checker took another byte");
 }
 
 /* The room must begin with the report; what is printed after it must show the verdict, and then the room must hold just that, and after it what was lent. */
