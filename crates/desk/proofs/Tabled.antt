@@ -1,5 +1,5 @@
 -- Two tables, judged by the schedule that was written for them. Assumes nothing.
-use mathlib.Core.Path.{_≡_, refl, sym, ap, _∙_}
+use mathlib.Core.Path.{_≡_, refl, sym, ap, _∙_, subst}
 use mathlib.Core.Bool.{Bool, true, false, cond, true≢false}
 use mathlib.Core.Logic.{_≢_, by-cases}
 use mathlib.Core.List.{List, []}
@@ -21,12 +21,15 @@ use Rattle.tables.specs.declared.verdict.Told.{Told}
 use Rattle.replay.specs.Writer.{schedule, unwritten, Filled}
 use Rattle.findings.specs.declared.finding.Finding.{Finding}
 use Rattle.review.specs.Agreement.{Reviewed}
-use Rattle.review.specs.Judge.{fills}
+use Rattle.order.specs.Order.{Reached}
+use Rattle.replay.specs.Replay.{played}
+use Rattle.review.specs.Judge.{put, generations, fills}
 use Rattle.sheet.specs.Sheet.{sheetOf}
 use Rattle.review.proofs.Reviews.{no-fill}
 use Rattle.review.proofs.Bounds.{refused-checked}
 use Rattle.desk.specs.declared.conclusion.Conclusion.{Conclusion}
 use Rattle.desk.specs.Conclusion.{toldOf, pairsOf, ofTables, bare}
+use Rattle.desk.specs.Rooms.{Holds, JudgesTables}
 
 -- rooms of zeros are full ones
 pub full-numbers : length {A = ℕ} (replicate 1536 0) ≡ mostRows * 3
@@ -67,6 +70,12 @@ module _ {commands lengths before after : List ℕ} {w : Written} (W : WritesSch
   pub steps-are : checked commands lengths .number ≡ 0 → take (w .length) after ≡ schedule commands lengths
   steps-are e = let F = filled e in ap (λ (l : List ℕ). take (w .length) l) (F .room) ∙ take-at (schedule commands lengths) (drop (w .length) before) (w .length) (sym (F .long))
 
+-- 10 and 11 fill the rooms
+pub fault-fills : (n : ℕ) → 10 ≤ n → n ≤ 11 → fills n ≡ true
+fault-fills n l h =
+    by-cases (ℕ-discrete n 10) (λ (e : n ≡ 10). rw e)
+    (λ (d : n ≢ 10). let e : n ≡ 11 = omega arith in rw e)
+
 -- what the review then found
 module _ {commands lengths σ relation room relation′ room′ : List ℕ} {f : Finding} (R : Reviewed commands lengths σ relation room f relation′ room′)
     (wide : length relation ≡ words mostRows) (high : length room ≡ mostRows) {t : Told} (said : t ≡ numbered (f .verdict)) where
@@ -97,3 +106,21 @@ module _ {commands lengths σ relation room relation′ room′ : List ℕ} {f :
           let q : toldOf commands lengths ≡ checked commands lengths = refused-checked commands lengths n (schedule commands lengths) (words mostRows) mostRows in
           agrees (R .demand₂ .verdict ∙ refused-checked commands lengths n σ (length relation) (length room) ∙ sym q)
           (λ p. absurd (true≢false (sym p ∙ rw q (no-fill (checked commands lengths .number) n (omega (arith, checked-small commands lengths))))))
+
+  -- for 10 and 11 the tables pass, and the rooms are filled
+  pub judged-tables : (checked commands lengths .number ≡ 0 → σ ≡ schedule commands lengths) → JudgesTables commands lengths relation room told-as relation′ room′
+  judged-tables s = record { told = concluded s; holds = λ l. by-cases (ℕ-discrete (checked commands lengths .number) 0) (filled-rooms l) (λ n. absurd (refused-low l n)) }
+    where
+      filled-rooms : 10 ≤ t .number → checked commands lengths .number ≡ 0 → Holds commands lengths relation room relation′ room′
+      filled-rooms l e =
+          let q = s e in
+          let n : t .number ≡ numbered (f .verdict) .number = ap (λ (u : Told). u .number) said in
+          let full : fills (numbered (f .verdict) .number) ≡ true = fault-fills (numbered (f .verdict) .number) (omega arith) (R .demand₁ .told) in
+          record {
+            reached = subst (λ (τ : List ℕ). Reached commands lengths (generations commands lengths τ) relation relation′) q (R .demand₂ .relation-holds full);
+            numbers = R .demand₂ .room-holds full ∙ ap (λ (τ : List ℕ). put (played commands lengths τ .generations) (rows commands) room) q;
+          }
+
+      refused-low : 10 ≤ t .number → checked commands lengths .number ≢ 0 → ⊥
+      refused-low l n =
+          omega (arith, ap (λ (u : Told). u .number) (said ∙ R .demand₂ .verdict ∙ refused-checked commands lengths n σ (length relation) (length room)), checked-small commands lengths)

@@ -1,5 +1,5 @@
 -- A text read into full tables, and what is concluded from it. Assumes nothing.
-use mathlib.Core.Path.{_≡_, sym, ap, _∙_}
+use mathlib.Core.Path.{_≡_, sym, ap, _∙_, subst}
 use mathlib.Core.Logic.{_≢_}
 use mathlib.Core.List.{List, [], _∷_}
 use Prim.Native.Nat.{ℕ, _*_, _≤_}
@@ -24,6 +24,7 @@ use Rattle.sheet.specs.declared.Sheet.{Sheet}
 use Rattle.sheet.specs.Sheet.{sheetOf}
 use Rattle.desk.specs.declared.conclusion.Conclusion.{Conclusion}
 use Rattle.desk.specs.Conclusion.{ofTables, readAs, ofText, bare}
+use Rattle.desk.specs.Rooms.{Holds, JudgesTables, Concludes}
 
 not-accepted : (r : Reading) → OneOf (0 ∷ 1 ∷ []) (Declared.tagOf R.the-type r) → answered r .told .number ≢ 0
 not-accepted (Unfit p) h = λ e. omega arith
@@ -36,13 +37,21 @@ module _ {text commands lengths commands′ lengths′ : List ℕ} {r : Reading}
   told-as = ap (λ (a : Answer). a .told) (reads .answers) ∙ rw (wide, high)
 
   pub refused-text : OneOf (0 ∷ 1 ∷ []) (Declared.tagOf R.the-type r) → {t : Told} → t ≡ answered r .told → {s : Sheet} → s ≡ sheetOf []
-      → _≡_ {A = Conclusion} (record { told = t; sheet = s }) (ofText text)
+      → {relation generations : List ℕ}
+      → Concludes text relation generations (record { conclusion = record { told = t; sheet = s }; numbers = 0; threads = 0 }) commands′ lengths′ relation generations
   unfolding ofText
   refused-text h {t} e {s} q =
       let n : readAs text .number ≢ 0 = rw (sym told-as) (not-accepted r h) in
       let p : t ≡ readAs text = e ∙ told-as in
       let z : _≡_ {A = Conclusion} (record { told = t; sheet = s }) (bare (readAs text)) = cc in
-      rw (ne-eqb (readAs text .number) 0 n) z
+      record {
+        told = rw (ne-eqb (readAs text .number) 0 n) z;
+        numbers-fit = omega arith;
+        threads-fit = omega arith;
+        numbers = λ e. absurd (n e);
+        threads = λ e. absurd (n e);
+        holds = λ e. absurd (n e);
+      }
 
   module _ {m t : ℕ} (is : r ≡ Accepted m t) where
     -- the program's tables stand first in the rooms
@@ -80,9 +89,19 @@ module _ {text commands lengths commands′ lengths′ : List ℕ} {r : Reading}
     pub lengths-read : take t lengths′ ≡ threadLengths text
     lengths-read = stand .1
 
-    pub accepted-text : {k : Conclusion} → k ≡ ofTables (take (m * 3) commands′) (take t lengths′) → k ≡ ofText text
+    pub accepted-text : {k : Conclusion} {relation generations relation′ generations′ : List ℕ}
+        → JudgesTables (take (m * 3) commands′) (take t lengths′) relation generations k relation′ generations′
+        → Concludes text relation generations (record { conclusion = k; numbers = m * 3; threads = t }) commands′ lengths′ relation′ generations′
     unfolding ofText
-    accepted-text {k} e =
+    accepted-text {k} {relation} {generations} {relation′} {generations′} J =
         let z : readAs text .number ≡ 0 = ap (λ (a : Told). a .number) (sym told-as) ∙ ap (λ (q : Reading). answered q .told .number) is in
-        let p : k ≡ ofTables (rowNumbers text) (threadLengths text) = e ∙ rw (rows-read, lengths-read) in
-        rw (eq-eqb (readAs text .number) 0 z) p
+        let p : k ≡ ofTables (rowNumbers text) (threadLengths text) = J .told ∙ rw (rows-read, lengths-read) in
+        record {
+          told = rw (eq-eqb (readAs text .number) 0 z) p;
+          numbers-fit = numbers-fit;
+          threads-fit = threads-fit;
+          numbers = λ _. rows-read;
+          threads = λ _. lengths-read;
+          holds = λ _ l. subst (λ (c : List ℕ). Holds c (threadLengths text) relation generations relation′ generations′) rows-read
+              (subst (λ (l : List ℕ). Holds (take (m * 3) commands′) l relation generations relation′ generations′) lengths-read (J .holds l));
+        }

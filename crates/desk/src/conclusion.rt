@@ -1,6 +1,5 @@
 // What the review of a text tells: the text read, a schedule written, and that judged.
-ghost use mathlib.Core.Path.{_≡_};
-ghost use Rattle.desk.specs.Conclusion.{ofTables, ofText};
+ghost use Rattle.desk.specs.Rooms.{FullRooms, FullTables, JudgesTables, Concludes};
 use notation::Reading;
 use notation::read;
 use replay::write_schedule;
@@ -15,31 +14,36 @@ pub(crate) struct Conclusion {
     pub(crate) sheet: Sheet,
 }
 
+// What is concluded from a text, and how many numbers its two tables have; none where it is refused.
+pub(crate) struct Concluded {
+    pub(crate) conclusion: Conclusion,
+    pub(crate) numbers: usize,
+    pub(crate) threads: usize,
+}
+
 // The sizes of full rooms.
-struct Full;
+pub(crate) struct Full;
 
 impl Full {
-    const NUMBERS: usize = Table::ROWS * 3;
+    pub(crate) const NUMBERS: usize = Table::ROWS * 3;
 
-    const WORDS: usize = Table::ROWS * ((Table::ROWS + 31) / 32);
+    pub(crate) const WORDS: usize = Table::ROWS * ((Table::ROWS + 31) / 32);
 }
 
 // Two tables judged by the schedule that the writer writes. Where it refuses them, so does the review.
-fn judge_tables(commands: &[u32], lengths: &[u32]) -> Conclusion
-    ensures { λ r. ⌜ r ≡ ofTables (now (commands .entry)) (now (lengths .entry)) ⌝ }
+fn judge_tables(
+    commands: &[u32],
+    lengths: &[u32],
+    relation: &mut [u32],
+    generations: &mut [u32],
+) -> Conclusion
+    requires { ⌜ FullRooms (now relation) (now generations) ⌝ }
+    ensures { λ r. ⌜ JudgesTables (now (commands .entry)) (now (lengths .entry)) (now (relation .entry)) (now (generations .entry)) r (now (relation .exit)) (now (generations .exit)) ⌝ }
 {
     let mut schedule = [0u32; Table::ROWS];
     let written = write_schedule(commands, lengths, &mut schedule);
     let steps = written.length;
-    let mut relation = [0u32; Full::WORDS];
-    let mut generations = [0u32; Table::ROWS];
-    let found = review(
-        commands,
-        lengths,
-        &schedule[..steps],
-        &mut relation,
-        &mut generations,
-    );
+    let found = review(commands, lengths, &schedule[..steps], relation, generations);
     let verdict = found.verdict;
     let sheet = found.sheet;
     Conclusion {
@@ -48,19 +52,33 @@ fn judge_tables(commands: &[u32], lengths: &[u32]) -> Conclusion
     }
 }
 
-// A text read into tables, and these judged; or what the reading refused.
-pub(crate) fn conclude(text: &[u8]) -> Conclusion
-    ensures { λ r. ⌜ r ≡ ofText (now (text .entry)) ⌝ }
+// A text read into tables, and these judged; or what the reading refused. All rooms are full ones.
+pub(crate) fn conclude(
+    text: &[u8],
+    commands: &mut [u32],
+    lengths: &mut [u32],
+    relation: &mut [u32],
+    generations: &mut [u32],
+) -> Concluded
+    requires { ⌜ FullTables (now commands) (now lengths) × FullRooms (now relation) (now generations) ⌝ }
+    ensures { λ r. ⌜ Concludes (now (text .entry)) (now (relation .entry)) (now (generations .entry)) r (now (commands .exit)) (now (lengths .exit)) (now (relation .exit)) (now (generations .exit)) ⌝ }
 {
-    let mut commands = [0u32; Full::NUMBERS];
-    let mut lengths = [0u32; Table::THREADS];
-    let reading = read(text, &mut commands, &mut lengths);
+    let reading = read(text, commands, lengths);
     let Reading::Accepted(m, t) = reading else {
-        return Conclusion {
-            told: reading.number(),
-            sheet: Sheet::empty(),
+        return Concluded {
+            conclusion: Conclusion {
+                told: reading.number(),
+                sheet: Sheet::empty(),
+            },
+            numbers: 0,
+            threads: 0,
         };
     };
     let numbers = m * 3;
-    judge_tables(&commands[..numbers], &lengths[..t])
+    let conclusion = judge_tables(&commands[..numbers], &lengths[..t], relation, generations);
+    Concluded {
+        conclusion,
+        numbers,
+        threads: t,
+    }
 }

@@ -14,6 +14,8 @@ pub struct Report;
 impl Report {
     // a report room has at least so many bytes
     pub const BYTES: usize = 192;
+    // one with evidence has 1,600 more for each of 32 schedules: two figures and a space for each of 512 steps, and 64 for the line above
+    pub const EVIDENCE_BYTES: usize = 192 + 32 * 1600;
 }
 
 // Two numbers, a space between them, and the line's end.

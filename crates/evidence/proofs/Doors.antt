@@ -26,7 +26,7 @@ use Rattle.review.specs.Judge.{reaches}
 use Rattle.review.specs.Agreement.{number, Reviewed}
 use Rattle.evidence.specs.Evidence.{Disputes, Orders, against, bothWays, evidenceRoom, evidenceOf}
 use Rattle.evidence.specs.Doors.{shortEvidence, refusedShowing, scheduleAt, Opposes, HoldsEvidence, Evidenced}
-use Rattle.evidence.proofs.Shown.{ten-disputes, eleven-orders, eleven-long, evidence-is}
+use Rattle.evidence.proofs.Shown.{shown-ten, shown-orders, shown-long, evidence-is}
 use Rattle.evidence.proofs.Slices.{both-long, x-at, y-at, nothing-of}
 
 -- what stands first in a room that is filled
@@ -58,23 +58,23 @@ module _ {commands lengths σ relation generations : List ℕ} {f : Finding} {re
       let ps = keptPairs (f .sheet) in
       let is : room′ ≡ bothWays commands lengths ρ ps ++ drop n room = F .room ∙ ap (λ (τ : List ℕ). τ ++ drop n room) (eleven-is e) in
       let p = getD ps k (pair 0 0) in
-      let (a, b) = eleven-orders R pass e k l in
+      let (a, b) = shown-orders R pass e k l in
       record {
         x-first =
             subst (Orders commands lengths (p .first) (p .second))
-            (sym (x-at commands lengths ρ (rows commands) (drop n room) ps (eleven-long R pass e) k l) ∙ ap (scheduleAt (rows commands) (k * 2)) (sym is)) a;
+            (sym (x-at commands lengths ρ (rows commands) (drop n room) ps (shown-long R pass e) k l) ∙ ap (scheduleAt (rows commands) (k * 2)) (sym is)) a;
         y-first =
             subst (Orders commands lengths (p .second) (p .first))
-            (sym (y-at commands lengths ρ (rows commands) (drop n room) ps (eleven-long R pass e) k l) ∙ ap (scheduleAt (rows commands) (k * 2 + 1)) (sym is)) b;
+            (sym (y-at commands lengths ρ (rows commands) (drop n room) ps (shown-long R pass e) k l) ∙ ap (scheduleAt (rows commands) (k * 2 + 1)) (sym is)) b;
       }
 
   holds : HoldsEvidence commands lengths σ room (record { finding = f; entries = n }) room′
   holds =
       record {
         written = F;
-        disputes = λ e. subst (Disputes commands lengths σ) (sym (front-is F ∙ ten-is e)) (ten-disputes R pass e);
+        disputes = λ e. subst (Disputes commands lengths σ) (sym (front-is F ∙ ten-is e)) (shown-ten R pass e);
         opposes = opposes;
-        count = λ e. F .long ∙ ap length (eleven-is e) ∙ both-long commands lengths ρ (rows commands) (keptPairs (f .sheet)) (eleven-long R pass e);
+        count = λ e. F .long ∙ ap length (eleven-is e) ∙ both-long commands lengths ρ (rows commands) (keptPairs (f .sheet)) (shown-long R pass e);
         nothing = λ a b. none-is (subst (λ (τ : List ℕ). FilledBy τ room room′ n) (nothing-of commands lengths ρ (number f) (f .sheet) a b) F);
       }
 

@@ -20,6 +20,7 @@ use Rattle.replay.specs.Ending.{judged}
 use Rattle.replay.specs.Replay.{played, generation}
 use Rattle.replay.specs.Writer.{apartSchedule}
 use Rattle.replay.proofs.Picking.{lowest-alike, apart-alike}
+use Rattle.evidence.proofs.Slices.{AreCommands}
 use Rattle.exhibits.specs.declared.shown.Shown.{Shown}
 use Rattle.exhibits.specs.declared.shown.Shown.the-variants.{First}
 use Rattle.exhibits.specs.Shown.{differs, generationOf, otherGeneration, shownAs, shownBy}
@@ -27,10 +28,6 @@ use Rattle.exhibits.specs.Exhibits.{exhibit, reuseExhibit, orderExhibit,
 use Rattle.exhibits.proofs.Doors.{exhibits-ten, exhibits-eleven, exhibits-none}
 
 -- ---- what is asked of the pairs
-
--- both numbers of a pair are commands
-abbrev pub AreCommands : List ℕ → Pair → Type 0
-AreCommands commands p = (p .first < rows commands) × (p .second < rows commands)
 
 -- the pairs that a verdict's exhibits are of are commands
 pub record Named (commands : List ℕ) (n : ℕ) (s : Sheet) : Type 0 where

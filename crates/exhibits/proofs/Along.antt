@@ -42,13 +42,13 @@ module _ {before mid : List ℕ} {at n : ℕ} {all rest : List ℕ} (A : Along b
 
 -- ---- words
 
-grouped : (a b c d e : List ℕ) → a ++ (b ++ c) ++ (d ++ e) ≡ a ++ b ++ c ++ d ++ e
-grouped a b c d e = simp append-assoc
+grouped : (a b c d : List ℕ) → a ++ (b ++ c ++ d) ≡ a ++ b ++ c ++ d
+grouped a b c d = simp append-assoc
 
 -- a line that is put in three parts
-pub generation-line : (c g h : ℕ) → (commandWord ++ figures c ++ getsWord) ++ (figures g ++ notWord) ++ (figures h ++ lineEnd) ≡ shownLine (Generation c g h)
+pub generation-line : (c g h : ℕ) → (commandWord ++ figures c ++ getsWord) ++ figures g ++ (notWord ++ figures h ++ lineEnd) ≡ shownLine (Generation c g h)
 unfolding shownLine
-generation-line c g h = grouped (commandWord ++ figures c ++ getsWord) (figures g) notWord (figures h) lineEnd
+generation-line c g h = grouped (commandWord ++ figures c ++ getsWord ++ figures g) notWord (figures h) lineEnd
 
 pub puts-as : {before after : List ℕ} {at n : ℕ} {v w : List ℕ} → v ≡ w → PutsBytes before after at v n → PutsBytes before after at w n
 puts-as e p = rw e at p

@@ -1,6 +1,6 @@
--- A schedule that is written stands at the front of its room. Assumes nothing.
+-- A schedule that is written stands at the front of its room, and is printed from there. Assumes nothing.
 use mathlib.Core.Path.{_≡_, sym, ap, _∙_}
-use mathlib.Core.List.{List}
+use mathlib.Core.List.{List, _++_}
 use Prim.Native.Nat.{ℕ, _≤_}
 use native.Mathlib.Omega.{arith}
 use lib.ListN.{length, take, drop, replicate, length-append, length-replicate}
@@ -11,9 +11,15 @@ use Rattle.tables.specs.Rows.{rows}
 use Rattle.tables.specs.Rules.{Keeps}
 use Rattle.tables.specs.declared.verdict.Told.{Told}
 use Rattle.tables.proofs.Rules.{kept}
+use Rattle.printing.specs.Putting.{PutsBytes}
+use Rattle.printing.proofs.Placing.{puts-on}
 use Rattle.replay.specs.declared.writer.Written.{Written}
 use Rattle.replay.specs.Writer.{unwritten, FilledBy, Fits}
 use Rattle.replay.specs.Doors.{Writes}
+use Rattle.exhibits.specs.declared.shown.Shown.{Shown}
+use Rattle.exhibits.specs.Shown.{shownBy}
+use Rattle.exhibits.specs.Lines.{shownLine, stepsLine}
+use Rattle.exhibits.specs.Exhibits.{exhibit}
 
 -- a full room of zeros has place for a schedule
 pub full-room : {commands lengths : List ℕ} → Keeps commands lengths → Fits commands lengths (replicate 512 0)
@@ -35,5 +41,14 @@ module _ {σ room after : List ℕ} {n : ℕ} (B : FilledBy σ room after n) whe
   pub front-long : n ≡ length (take n after)
   front-long = sym (length-take-le n after front-fits)
 
-  pub front-is : take n after ≡ σ
+  front-is : take n after ≡ σ
   front-is = ap (take n) (B .room) ∙ take-at σ (drop n room) n (sym (B .long))
+
+  -- a line, and below it the front of the room
+  pub puts-below : {line a b c : List ℕ} {at m k : ℕ} → PutsBytes a b at line m → PutsBytes b c m (stepsLine (take n after)) k → PutsBytes a c at (line ++ stepsLine σ) k
+  puts-below p q = puts-on p (rw front-is at q)
+
+  -- the line says what the front of the room shows
+  pub puts-shown : (commands lengths : List ℕ) (g : ℕ → ℕ) {s : Shown} {a b c : List ℕ} {at m k : ℕ} → s ≡ shownBy commands lengths g (take n after)
+      → PutsBytes a b at (shownLine s) m → PutsBytes b c m (stepsLine (take n after)) k → PutsBytes a c at (exhibit (shownBy commands lengths g σ) σ) k
+  puts-shown commands lengths g e p q = puts-below (rw (e ∙ ap (shownBy commands lengths g) front-is) at p) q

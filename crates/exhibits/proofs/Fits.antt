@@ -33,7 +33,8 @@ use Rattle.exhibits.specs.Shown.{differs, otherGeneration, shownAs, show
 use Rattle.exhibits.specs.Lines.{commandWord, firstWord, getsWord, notWord, clashWord, deadlockWord, barrierWord, moreWord, lineEnd, shownLine, partedBy, stepsLine}
 use Rattle.exhibits.specs.Exhibits.{reuseExhibit, orderExhibit, raceExhibits, exhibits}
 use Rattle.exhibits.proofs.Doors.{exhibits-ten, exhibits-eleven, exhibits-none}
-use Rattle.exhibits.proofs.Alike.{AreCommands, Named}
+use Rattle.evidence.proofs.Slices.{AreCommands}
+use Rattle.exhibits.proofs.Alike.{Named}
 
 -- ---- a line in words has at most 64 bytes
 

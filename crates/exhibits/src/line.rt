@@ -31,9 +31,9 @@ fn put_first(room: &mut [u8], at: usize, x: usize, y: usize) -> usize
 fn put_generation(room: &mut [u8], at: usize, c: usize, g: u32, h: u32) -> usize
     ensures { λ r. ⌜ PutsBytes (now (room .entry)) (now (room .exit)) at (shownLine (Generation c g h)) r ⌝ }
 {
-    let next = put_within(room, at, b"command ", c, b" gets generation ");
-    let last = put_within(room, next, b"", g as usize, b", not ");
-    put_within(room, last, b"", h as usize, b"\n")
+    let found = put_within(room, at, b"command ", c, b" gets generation ");
+    let next = put_number(room, found, g as usize);
+    put_within(room, next, b", not ", h as usize, b"\n")
 }
 
 // What a schedule shows, in words.

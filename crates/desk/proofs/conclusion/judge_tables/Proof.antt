@@ -1,8 +1,9 @@
+-- `judge_tables` meets its contract. Assumes nothing.
 use mathlib.Core.Path.{sym}
 use native.Mathlib.Omega.{arith}
 use lib.Seq.{length-take-le}
 use borrow.Author.Needs.{needs}
-use Rattle.desk.proofs.Tabled.{full-rows, full-words, steps-fit, steps-are, concluded}
+use Rattle.desk.proofs.Tabled.{full-rows, steps-fit, steps-are, judged-tables}
 use Rattle.desk.proofs.conclusion.judge_tables.Statement.{statement}
 use Rattle.desk.proofs.conclusion.judge_tables.Tie as tie
 
@@ -16,12 +17,21 @@ slice-aggregate-review c =
 
 returns : tie.Need-returns
 returns c =
-    let f = c .before .before .before .before .review in
-    let w = c .before .before .before .before .before .before .before .before .before .write-schedule in
-    concluded (f .ensures) full-words full-rows (c .number .ensures) (λ e. steps-are (w .ensures) full-rows e)
+    let f = c .before .before .before .before .before .before .review in
+    let w = c .before .before .before .before .before .before .before .before .before .before .before .write-schedule in
+    let p = c .before .before .before .before .before .before .before .before .before .before .before .before .before .before .before .before .before .pre in
+    judged-tables (f .ensures) (p .wide) (p .high) (c .number .ensures) (λ e. steps-are (w .ensures) full-rows e)
 
 pub judge-tables-spec : {M : Type 1} → statement M
 judge-tables-spec =
     tie.close
-    (tie.spec (λ c. search needs) (λ c κs. search needs) array-share-prefix-schedule slice-aggregate-review
-    (λ c. search needs) (λ c. search needs) (λ c κs. search needs) (λ c κs. search needs) returns)
+    (tie.spec
+    (λ c. search needs)
+    (λ c κs. search needs)
+    array-share-prefix-schedule
+    slice-aggregate-review
+    (λ c κs. search needs)
+    (λ c κs. search needs)
+    (λ c. search needs)
+    (λ c. search needs)
+    returns)

@@ -1,11 +1,7 @@
 -- `put_order` meets its contract: the line, and the schedule from the front of its room. Assumes nothing.
-use mathlib.Core.Path.{ap}
 use borrow.Author.Needs.{needs}
-use Rattle.printing.proofs.Placing.{puts-on}
-use Rattle.exhibits.specs.Lines.{stepsLine}
 use Rattle.exhibits.specs.Exhibits.{orderExhibit}
-use Rattle.exhibits.proofs.Along.{puts-as}
-use Rattle.exhibits.proofs.Apart.{full-room, front-fits, front-long, front-is}
+use Rattle.exhibits.proofs.Apart.{full-room, front-fits, front-long, puts-below}
 use Rattle.exhibits.proofs.exhibit.put_order.Statement.{statement}
 use Rattle.exhibits.proofs.exhibit.put_order.Tie as tie
 
@@ -23,8 +19,7 @@ unfolding orderExhibit
 returns c =
     let p = c .before .before in
     let s = p .before .before .before .before .before in
-    let f = s .before .before .before .fill-apart in
-    puts-on (s .put-shown .ensures) (puts-as (ap stepsLine (front-is (f .ensures))) (p .put-steps .ensures))
+    puts-below (s .before .before .before .fill-apart .ensures) (s .put-shown .ensures) (p .put-steps .ensures)
 
 pub put-order-spec : {M : Type 1} → statement M
 put-order-spec =

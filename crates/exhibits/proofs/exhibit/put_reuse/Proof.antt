@@ -1,11 +1,7 @@
 -- `put_reuse` meets its contract: what the schedule shows, and the schedule from the front of its room. Assumes nothing.
-use mathlib.Core.Path.{ap, _∙_}
 use borrow.Author.Needs.{needs}
-use Rattle.printing.proofs.Placing.{puts-on}
-use Rattle.exhibits.specs.Lines.{shownLine, stepsLine}
 use Rattle.exhibits.specs.Exhibits.{reuseExhibit}
-use Rattle.exhibits.proofs.Along.{puts-as}
-use Rattle.exhibits.proofs.Apart.{full-room, front-fits, front-long, front-is}
+use Rattle.exhibits.proofs.Apart.{full-room, front-fits, front-long, puts-shown}
 use Rattle.exhibits.proofs.exhibit.put_reuse.Statement.{statement}
 use Rattle.exhibits.proofs.exhibit.put_reuse.Tie as tie
 
@@ -30,8 +26,7 @@ returns c =
     let p = c .before .before in
     let s = p .before .before .before .before .before in
     let j = s .before .before in
-    let e = front-is (j .before .before .before .fill-apart .ensures) in
-    puts-on (puts-as (ap shownLine (j .shown-by .ensures ∙ rw e)) (s .put-shown .ensures)) (puts-as (ap stepsLine e) (p .put-steps .ensures))
+    puts-shown (j .before .before .before .fill-apart .ensures) _ _ _ (j .shown-by .ensures) (s .put-shown .ensures) (p .put-steps .ensures)
 
 pub put-reuse-spec : {M : Type 1} → statement M
 put-reuse-spec =

@@ -9,8 +9,8 @@ returns : tie.Need-returns
 returns c =
     let z = c .before .before in
     let y = z .before .before .before .before .before .before in
-    let x = y .before .before .before .before .before .before in
-    puts-as (generation-line _ _ _) (puts-on (puts-on (x .put-within .ensures) (y .put-within2 .ensures)) (z .put-within3 .ensures))
+    let x = y .before .before .before .before in
+    puts-as (generation-line _ _ _) (puts-on (puts-on (x .put-within .ensures) (y .put-number .ensures)) (z .put-within2 .ensures))
 
 pub put-generation-spec : {M : Type 1} → statement M
 put-generation-spec =
@@ -19,8 +19,6 @@ put-generation-spec =
     (λ c. search needs)
     (λ c. search needs)
     (λ c κs. search needs)
-    (λ c. search needs)
-    (λ c. search needs)
     (λ c κs. search needs)
     (λ c. search needs)
     (λ c. search needs)

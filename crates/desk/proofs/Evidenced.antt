@@ -1,0 +1,257 @@
+-- What is printed of evidence for a text is that of its definition, has room, and is so. Assumes nothing.
+use mathlib.Core.Path.{_≡_, refl, sym, ap, ap₂, _∙_, subst}
+use mathlib.Core.Logic.{_⊎_, inl, inr, ⊎-elim, by-cases, _≢_}
+use mathlib.Core.Bool.{true}
+use mathlib.Core.List.{List, _++_}
+use Prim.Native.Nat.{ℕ, _+_, _*_, _≤_, _<_}
+use native.Mathlib.Decide.{ℕ-discrete, decLt}
+use native.Mathlib.Omega.{arith}
+use lib.ListN.{length, getD, take, length-append}
+use borrow.Author.Tests.{eq-eqb, ne-eqb}
+use Rattle.tables.specs.Limits.{mostRows}
+use Rattle.tables.specs.Rows.{rows}
+use Rattle.tables.specs.declared.verdict.Told.{Told}
+use Rattle.relation.specs.Table.{words, related}
+use Rattle.notation.specs.declared.reading.Reading.{Reading}
+use Rattle.notation.specs.declared.reading.Reading.the-variants.{Unfit, Over, Accepted}
+use Rattle.replay.specs.Writer.{schedule}
+use Rattle.replay.specs.Replay.{played}
+use Rattle.replay.specs.Ending.{judged}
+use Rattle.replay.specs.InOrder.{orElse}
+use Rattle.replay.proofs.Refusals.{or-first, or-second}
+use Rattle.replay.proofs.Places.{generation-placed}
+use Rattle.replay.proofs.Plays.{clean-through}
+use Rattle.sheet.specs.declared.Sheet.{Sheet}
+use Rattle.sheet.specs.Sheet.{pair, keptPairs}
+use Rattle.rooms.specs.Refusals.{refused}
+use Rattle.rooms.specs.Rooms.{numberAt}
+use Rattle.rooms.proofs.Refusals.{admitted, refused-small}
+use Rattle.order.proofs.Reaching.{related-reaches}
+use Rattle.findings.specs.Findings.{faultTold}
+use Rattle.review.specs.Judge.{verdictOf, generations, reaches, fills}
+use Rattle.review.proofs.Bounds.{number-small}
+use Rattle.review.proofs.Rooms.{put-front}
+use Rattle.evidence.proofs.Verdicts as verdicts
+use Rattle.evidence.proofs.Verdicts.{Gives, ten-commands, ten-disputes, eleven-commands, eleven-orders}
+use Rattle.exhibits.specs.Exhibits.{exhibited}
+use Rattle.exhibits.proofs.Doors.{exhibited-none, exhibited-all, exhibits-none}
+use Rattle.exhibits.proofs.Alike.{Named, exhibits-alike}
+use Rattle.exhibits.proofs.Fits.{exhibits-short}
+use Rattle.exhibits.proofs.True.{shown-true}
+use Rattle.printing.specs.Putting.{PutsBytes}
+use Rattle.printing.proofs.Placing.{puts-on, puts-over}
+use Rattle.desk.specs.declared.conclusion.Conclusion.{Conclusion}
+use Rattle.desk.specs.declared.conclusion.Concluded.{Concluded}
+use Rattle.desk.specs.Conclusion.{toldOf, ofTables, readAs, ofText, bare}
+use Rattle.desk.specs.Report.{leastRoom, report}
+use Rattle.desk.specs.Rooms.{Holds, Concludes}
+use Rattle.desk.specs.Evidence.{leastEvidence, commandsOf, lengthsOf, offered, generationsOf, reachesOf, textExhibits, Against, BothOrders, TextEvidenced}
+use Rattle.desk.proofs.Tabled.{fault-fills}
+use Rattle.desk.proofs.Fits.{longest-fits}
+use Rattle.desk.proofs.Demands.{taken, read-told, tables-told}
+use Rattle.desk.proofs.Reports.{text-short}
+
+-- ---- two tables that are told 10 or 11 by the writer's schedule
+
+module _ (commands lengths : List ℕ) (l : 10 ≤ ofTables commands lengths .told .number) where
+  abbrev σ : List ℕ
+  σ = schedule commands lengths
+
+  number-is : ofTables commands lengths .told .number ≡ toldOf commands lengths .number
+  number-is = ap (λ (t : Told). t .number) (tables-told commands lengths)
+
+  pub tables-pass : refused commands lengths (words mostRows) mostRows .number ≡ 0
+  unfolding verdictOf
+  tables-pass =
+      let a = refused commands lengths (words mostRows) mostRows in
+      by-cases (ℕ-discrete (a .number) 0) (λ (e : a .number ≡ 0). e)
+      (λ (n : a .number ≢ 0). absurd (omega (arith, number-is, ap (λ (t : Told). t .number) (or-first a (orElse (judged lengths (played commands lengths σ)) (faultTold commands lengths (generations commands lengths σ) (reaches commands lengths σ))) n), refused-small commands lengths (words mostRows) mostRows)))
+
+  pub tables-gives : Gives commands lengths σ (ofTables commands lengths .told .number) (ofTables commands lengths .sheet)
+  unfolding verdictOf ofTables
+  tables-gives =
+      record {
+        keeps = admitted commands lengths (words mostRows) mostRows tables-pass .keeps;
+        told = number-is ∙ ap (λ (t : Told). t .number) (sym (or-second (refused commands lengths (words mostRows) mostRows) _ tables-pass));
+        sheet =
+            λ _.
+            let full : fills (toldOf commands lengths .number) ≡ true = fault-fills (toldOf commands lengths .number) (omega (arith, number-is)) (number-small commands lengths σ (words mostRows) mostRows) in
+            rw full;
+      }
+
+-- ---- a text
+
+module _ (text : List ℕ) where
+  abbrev n : ℕ
+  n = ofText text .told .number
+
+  abbrev s : Sheet
+  s = ofText text .sheet
+
+  -- a text that is told 10 or 11 is read
+  by-reading : (r : Reading) → taken text ≡ r → (readAs text .number ≡ 0) ⊎ (12 ≤ readAs text .number)
+  by-reading (Unfit p) e = inr (omega (arith, ap (λ (t : Told). t .number) (read-told text e)))
+  by-reading Over e = inr (omega (arith, ap (λ (t : Told). t .number) (read-told text e)))
+  by-reading (Accepted m t) e = inl (ap (λ (t : Told). t .number) (read-told text e))
+
+  not-read : readAs text .number ≢ 0 → ofText text ≡ bare (readAs text)
+  unfolding ofText
+  not-read d = rw (ne-eqb (readAs text .number) 0 d)
+
+  pub fault-read : 10 ≤ n → n ≤ 11 → readAs text .number ≡ 0
+  fault-read l h =
+      by-cases (ℕ-discrete (readAs text .number) 0) (λ (z : readAs text .number ≡ 0). z)
+      (λ (d : readAs text .number ≢ 0).
+      ⊎-elim (λ z. z) (λ m. absurd (omega (arith, ap (λ (k : Conclusion). k .told .number) (not-read d), m))) (by-reading (taken text) refl))
+
+  module _ (z : readAs text .number ≡ 0) where
+    text-is : ofText text ≡ ofTables (commandsOf text) (lengthsOf text)
+    unfolding ofText
+    text-is = rw (eq-eqb (readAs text .number) 0 z)
+
+    text-gives : 10 ≤ n → Gives (commandsOf text) (lengthsOf text) (offered text) n s
+    text-gives l =
+        subst (λ (k : Conclusion). Gives (commandsOf text) (lengthsOf text) (offered text) (k .told .number) (k .sheet)) (sym text-is)
+        (tables-gives (commandsOf text) (lengthsOf text) (omega (arith, ap (λ (k : Conclusion). k .told .number) text-is)))
+
+    text-passes : 10 ≤ n → refused (commandsOf text) (lengthsOf text) (words mostRows) mostRows .number ≡ 0
+    text-passes l = tables-pass (commandsOf text) (lengthsOf text) (omega (arith, ap (λ (k : Conclusion). k .told .number) text-is))
+
+  named : (l : 10 ≤ n) → n ≤ 11 → Named (commandsOf text) n s
+  named l h = let G = text-gives (fault-read l h) l in record { reuse = ten-commands G; races = eleven-commands G }
+
+  -- 10 and 11, or no exhibits
+  either : ((10 ≤ n) × (n ≤ 11)) ⊎ ((n ≢ 10) × (n ≢ 11))
+  either =
+      by-cases (ℕ-discrete n 10) (λ (e : n ≡ 10). inl (omega arith, omega arith))
+      (λ (d : n ≢ 10). by-cases (ℕ-discrete n 11) (λ (e : n ≡ 11). inl (omega arith, omega arith)) (λ (f : n ≢ 11). inr (d, f)))
+
+  -- ---- they have room
+
+  exhibits-few : length (textExhibits text) ≤ 32 * 1600
+  unfolding textExhibits mostRows
+  exhibits-few =
+      ⊎-elim
+      (λ w.
+      let G = text-gives (fault-read (w .0) (w .1)) (w .0) in
+      exhibits-short (G .keeps) (generationsOf text)
+      (λ c l. omega (arith, generation-placed (G .keeps) (offered text) (verdicts.clean G (w .0) .through) c l)) (reachesOf text) n s (named (w .0) (w .1)))
+      (λ w. omega (arith, ap length (exhibits-none (commandsOf text) (lengthsOf text) (generationsOf text) (reachesOf text) n s (w .0) (w .1))))
+      either
+
+  pub all-fits : length (report (ofText text) ++ textExhibits text) ≤ leastEvidence
+  unfolding leastEvidence leastRoom
+  all-fits = omega (arith, length-append (report (ofText text)) (textExhibits text), text-short text, longest-fits, exhibits-few)
+
+  -- ---- they are so
+
+  pub ten-so : n ≡ 10 → Against text
+  ten-so e =
+      let G = text-gives (fault-read (omega arith) (omega arith)) (omega arith) in
+      let D = ten-disputes G e in
+      record { disputes = D; so = shown-true (commandsOf text) (lengthsOf text) (generationsOf text) _ (D .other) }
+
+  pub eleven-so : n ≡ 11 → (k : ℕ) → k < length (keptPairs s) → BothOrders text (getD (keptPairs s) k (pair 0 0))
+  eleven-so e k l =
+      let (a, b) = eleven-orders (text-gives (fault-read (omega arith) (omega arith)) (omega arith)) e k l in
+      record { x-first = a; y-first = b }
+
+-- ---- what `put_exhibits` has put, over the rooms that a conclusion left
+
+module _ {text relation generations : List ℕ} {r : Concluded} {commands′ lengths′ relation′ generations′ : List ℕ}
+    (C : Concludes text relation generations r commands′ lengths′ relation′ generations′) (wide : length relation ≡ words mostRows)
+    (wide′ : length relation′ ≡ words mostRows) (high′ : length generations′ ≡ mostRows) where
+  abbrev c : List ℕ
+  c = commandsOf text
+
+  abbrev l : List ℕ
+  l = lengthsOf text
+
+  abbrev k : ℕ
+  k = ofText text .told .number
+
+  abbrev t : Sheet
+  t = ofText text .sheet
+
+  -- for 10 and 11, over the text's tables and what the rooms hold
+  module _ (low : 10 ≤ k) (top : k ≤ 11) where
+    z : readAs text .number ≡ 0
+    z = fault-read text low top
+
+    G : Gives c l (offered text) k t
+    G = text-gives text z low
+
+    H : Holds c l relation generations relation′ generations′
+    H = C .holds z (omega (arith, ap (λ (k : Conclusion). k .told .number) (C .told)))
+
+    same-numbers : (x : ℕ) → x < rows c → numberAt generations′ x ≡ generationsOf text x
+    same-numbers x h =
+        let T = clean-through (G .keeps) (offered text) (verdicts.clean G low .through) in
+        ap (λ (g : List ℕ). getD g x 0) (H .numbers)
+        ∙ put-front (played c l (offered text) .generations) generations (rows c) (omega (arith, G .keeps .few-rows, T .gens .long)) x h
+
+    same-reach : (x y : ℕ) → x < rows c → y < rows c → related relation′ (rows c) x y ≡ reachesOf text x y
+    same-reach = related-reaches c l (generationsOf text) relation relation′ (H .reached) (omega (arith, wide, admitted c l (words mostRows) mostRows (text-passes text z low) .relation-fits))
+
+    faults-are : exhibited c l generations′ relation′ k t ≡ textExhibits text
+    unfolding textExhibits
+    faults-are =
+        exhibited-all c l generations′ relation′ (rw (wide′, high′) (text-passes text z low)) k t
+        ∙ exhibits-alike (G .keeps) (numberAt generations′) (generationsOf text) (related relation′ (rows c)) (reachesOf text) same-numbers same-reach k t (named text low top)
+
+  -- others have none
+  none-are : k ≢ 10 → k ≢ 11 → (cs ls : List ℕ) → exhibited cs ls generations′ relation′ k t ≡ textExhibits text
+  unfolding textExhibits
+  none-are a b cs ls =
+      by-cases (ℕ-discrete (refused cs ls (length relation′) (length generations′) .number) 0)
+      (λ (z : refused cs ls (length relation′) (length generations′) .number ≡ 0).
+      exhibited-all cs ls generations′ relation′ z k t ∙ exhibits-none cs ls (numberAt generations′) (related relation′ (rows cs)) k t a b)
+      (λ (d : refused cs ls (length relation′) (length generations′) .number ≢ 0). exhibited-none cs ls generations′ relation′ d k t)
+      ∙ sym (exhibits-none c l (generationsOf text) (reachesOf text) k t a b)
+
+  pub exhibits-are : exhibited (take (r .numbers) commands′) (take (r .threads) lengths′) generations′ relation′ (r .conclusion .told .number) (r .conclusion .sheet) ≡ textExhibits text
+  exhibits-are =
+      ap (λ (q : Conclusion). exhibited (take (r .numbers) commands′) (take (r .threads) lengths′) generations′ relation′ (q .told .number) (q .sheet)) (C .told)
+      ∙ ⊎-elim
+      (λ w.
+      let z = fault-read text (w .0) (w .1) in
+      ap₂ (λ (cs ls : List ℕ). exhibited cs ls generations′ relation′ k t) (C .numbers z) (C .threads z) ∙ faults-are (w .0) (w .1))
+      (λ w. none-are (w .0) (w .1) (take (r .numbers) commands′) (take (r .threads) lengths′))
+      (either text)
+
+  pub evidenced-text : {room room₁ room₂ : List ℕ} {at next : ℕ} → leastEvidence ≤ length room → PutsBytes room room₁ 0 (report (r .conclusion)) at
+      → PutsBytes room₁ room₂ at (exhibited (take (r .numbers) commands′) (take (r .threads) lengths′) generations′ relation′ (r .conclusion .told .number) (r .conclusion .sheet)) next
+      → TextEvidenced text room room₂ (r .conclusion .told .number)
+  evidenced-text {room} h p q =
+      record {
+        refuses = λ g. absurd (omega arith);
+        answers = λ _. ap (λ (k : Conclusion). k .told .number) (C .told);
+        prints = λ _. puts-over (puts-on (rw (C .told) at p) (rw exhibits-are at q)) (omega (arith, all-fits text));
+        fits = all-fits text;
+        reuse = ten-so text;
+        races = eleven-so text;
+      }
+
+module _ (text room : List ℕ) where
+  pub evidence-refused : length room < leastEvidence → TextEvidenced text room room 14
+  evidence-refused h =
+      record {
+        refuses = λ _. (refl, refl);
+        answers = λ g. absurd (omega arith);
+        prints = λ g. absurd (omega arith);
+        fits = all-fits text;
+        reuse = ten-so text;
+        races = eleven-so text;
+      }
+
+-- no other answer, and no other bytes
+pub evidence-one : {text room a b : List ℕ} {m n : ℕ} → TextEvidenced text room a m → TextEvidenced text room b n → (m ≡ n) × (a ≡ b)
+evidence-one {room = room} x y =
+    by-cases (decLt (length room) leastEvidence)
+    (λ (l : length room < leastEvidence).
+    let (e, p) = x .refuses l in
+    let (f, q) = y .refuses l in
+    (e ∙ sym f, p ∙ sym q))
+    (λ (n : ¬ (length room < leastEvidence)).
+    let l : leastEvidence ≤ length room = omega arith in
+    (x .answers l ∙ sym (y .answers l), x .prints l ∙ sym (y .prints l)))
