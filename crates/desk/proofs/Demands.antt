@@ -28,7 +28,7 @@ use Rattle.review.specs.Judge.{fills}
 use Rattle.review.specs.Agreement.{Judges}
 use Rattle.review.proofs.Judging.{judges}
 use Rattle.review.proofs.Bounds.{refused-checked, passed-told, complete-number}
-use Rattle.desk.specs.declared.conclusion.Conclusion.{Conclusion}
+use Rattle.report.specs.declared.Conclusion.{Conclusion}
 use Rattle.desk.specs.Conclusion.{bare, toldOf, pairsOf, ofTables, readAs, ofText}
 use Rattle.desk.specs.Promise.{numbers, Reviewable, JudgesText, Possible}
 

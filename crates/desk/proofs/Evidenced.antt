@@ -40,16 +40,16 @@ use Rattle.exhibits.proofs.Fits.{exhibits-short}
 use Rattle.exhibits.proofs.True.{shown-true}
 use Rattle.printing.specs.Putting.{PutsBytes}
 use Rattle.printing.proofs.Placing.{puts-on, puts-over}
-use Rattle.desk.specs.declared.conclusion.Conclusion.{Conclusion}
+use Rattle.report.specs.declared.Conclusion.{Conclusion}
 use Rattle.desk.specs.declared.conclusion.Concluded.{Concluded}
 use Rattle.desk.specs.Conclusion.{toldOf, ofTables, readAs, ofText, bare}
-use Rattle.desk.specs.Report.{leastRoom, report}
+use Rattle.report.specs.Report.{report}
+use Rattle.desk.specs.Promise.{leastRoom}
 use Rattle.desk.specs.Rooms.{Holds, Concludes}
 use Rattle.desk.specs.Evidence.{leastEvidence, commandsOf, lengthsOf, offered, generationsOf, reachesOf, textExhibits, Against, BothOrders, TextEvidenced}
 use Rattle.desk.proofs.Tabled.{fault-fills}
-use Rattle.desk.proofs.Fits.{longest-fits}
 use Rattle.desk.proofs.Demands.{taken, read-told, tables-told}
-use Rattle.desk.proofs.Reports.{text-short}
+use Rattle.desk.proofs.Reports.{text-short, longest-fits}
 
 -- ---- two tables that are told 10 or 11 by the writer's schedule
 

@@ -27,7 +27,7 @@ use Rattle.rooms.specs.Refusals.{refused}
 use Rattle.review.specs.Judge.{verdictOf}
 use Rattle.printing.specs.Figures.{figuresTo, figures}
 use Rattle.desk.specs.Conclusion.{ofTables, ofText}
-use Rattle.desk.specs.Report.{twoNumbers, verdictLine, totalLine, pairLines, report}
+use Rattle.report.specs.Report.{twoNumbers, verdictLine, totalLine, pairLines, report}
 use Rattle.desk.specs.Examples.{reports, reported}
 
 pub every : reported reports ≡ true

@@ -21,11 +21,11 @@ use Rattle.replay.specs.Writer.{schedule}
 use Rattle.sheet.specs.Sheet.{mostKept, pair, firsts, sheetOf}
 use Rattle.review.specs.Judge.{fills}
 use Rattle.review.proofs.Bounds.{place-small, also-small, number-small, pairs-few, pairs-small}
-use Rattle.desk.specs.declared.conclusion.Conclusion.{Conclusion}
+use Rattle.report.specs.declared.Conclusion.{Conclusion}
 use Rattle.desk.specs.Conclusion.{bare, toldOf, pairsOf, ofTables, readAs, ofText}
-use Rattle.desk.specs.Report.{leastRoom, report}
-use Rattle.desk.specs.Promise.{TextReviewed}
-use Rattle.desk.proofs.Fits.{Short, longest, longest-fits, report-short}
+use Rattle.report.specs.Report.{report}
+use Rattle.desk.specs.Promise.{leastRoom, TextReviewed}
+use Rattle.report.proofs.Fits.{Short, longest, report-short}
 use Rattle.desk.proofs.Demands.{taken, read-told, text-judged, text-possible}
 
 -- small numbers
@@ -95,6 +95,10 @@ few-text text = by (eqb (readAs text .number) 0)
 
 pub text-short : (text : List ℕ) → length (report (ofText text)) ≤ longest
 text-short text = let f = few-text text in report-short (ofText text) (f .number) (f .place) (f .also) (f .total) (f .pairs)
+
+pub longest-fits : longest ≤ leastRoom
+unfolding longest leastRoom
+longest-fits = omega arith
 
 text-fits : (text : List ℕ) → length (report (ofText text)) ≤ leastRoom
 text-fits text = omega (arith, text-short text, longest-fits)

@@ -27,7 +27,7 @@ use Rattle.review.specs.Judge.{put, generations, fills}
 use Rattle.sheet.specs.Sheet.{sheetOf}
 use Rattle.review.proofs.Reviews.{no-fill}
 use Rattle.review.proofs.Bounds.{refused-checked}
-use Rattle.desk.specs.declared.conclusion.Conclusion.{Conclusion}
+use Rattle.report.specs.declared.Conclusion.{Conclusion}
 use Rattle.desk.specs.Conclusion.{toldOf, pairsOf, ofTables, bare}
 use Rattle.desk.specs.Rooms.{Holds, JudgesTables}
 

@@ -22,7 +22,7 @@ use Rattle.notation.proofs.Tabled.{listing-long}
 use Rattle.notation.proofs.reading.Reading as R
 use Rattle.sheet.specs.declared.Sheet.{Sheet}
 use Rattle.sheet.specs.Sheet.{sheetOf}
-use Rattle.desk.specs.declared.conclusion.Conclusion.{Conclusion}
+use Rattle.report.specs.declared.Conclusion.{Conclusion}
 use Rattle.desk.specs.Conclusion.{ofTables, readAs, ofText, bare}
 use Rattle.desk.specs.Rooms.{Holds, JudgesTables, Concludes}
 

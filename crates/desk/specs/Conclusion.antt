@@ -12,7 +12,7 @@ use Rattle.sheet.specs.Sheet.{sheetOf}
 use Rattle.findings.specs.Findings.{faultPairs}
 use Rattle.review.specs.Judge.{verdictOf, generations, reaches, fills}
 use Rattle.sheet.specs.declared.Pair.{Pair}
-use Rattle.desk.specs.declared.conclusion.Conclusion.{Conclusion}
+use Rattle.report.specs.declared.Conclusion.{Conclusion}
 
 -- a refusal, or a verdict without a fault's pairs: the sheet is empty with total 0
 abbrev pub bare : Told → Conclusion

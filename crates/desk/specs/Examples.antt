@@ -4,7 +4,7 @@ use mathlib.Core.List.{List, [], _∷_}
 use Prim.Native.Nat.{ℕ}
 use Rattle.spelling.specs.Words.{sameBytes}
 use Rattle.desk.specs.Conclusion.{ofText}
-use Rattle.desk.specs.Report.{report}
+use Rattle.report.specs.Report.{report}
 
 -- a text, and its report in whole
 pub record Reported : Type 0 where

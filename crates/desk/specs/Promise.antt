@@ -1,7 +1,7 @@
 -- What the text review promises.
 use mathlib.Core.Path.{_≡_}
 use mathlib.Core.Logic.{_⊎_, _↔_}
-use mathlib.Core.List.{List, _++_}
+use mathlib.Core.List.{List}
 use Prim.Native.Nat.{ℕ, _*_, _≤_, _<_}
 use lib.ListN.{length}
 use Rattle.tables.specs.Limits.{mostRows, mostThreads}
@@ -14,11 +14,13 @@ use Rattle.grammar.specs.Grammar.{Listing, Denotes, allCommands, threads, listi
 use Rattle.notation.specs.Reading.{mostBytes}
 use Rattle.notation.specs.Promise.{Within, RefusedAt}
 use Rattle.replay.specs.Schedules.{Agree, Disagree}
-use Rattle.sheet.specs.Sheet.{sheetOf}
 use Rattle.review.specs.Agreement.{SameOrder}
-use Rattle.sheet.specs.declared.Pair.{Pair}
 use Rattle.desk.specs.Conclusion.{ofText}
-use Rattle.desk.specs.Report.{leastRoom, report}
+use Rattle.report.specs.Report.{report}
+
+-- a report room has at least so many bytes
+unfoldable pub leastRoom : ℕ
+leastRoom = 192
 
 -- the numbers of a listing's command table
 abbrev pub numbers : Listing → List ℕ
@@ -60,10 +62,3 @@ pub record TextReviewed (text room room′ : List ℕ) (n : ℕ) : Type 0 where
   pub fits : length (report (ofText text)) ≤ leastRoom
   pub possible : Possible text (ofText text .told)
   pub demand₃ : leastRoom ≤ length room → JudgesText text n
-
--- A report tells its conclusion again, whatever stands after it in the room: verdict, places, total and kept pairs.
-abbrev pub ToldAgain : Type 0
-ToldAgain =
-    (t u : Told) (ps qs : List Pair) (rest rest′ : List ℕ)
-    → report (record { told = t; sheet = sheetOf ps }) ++ rest ≡ report (record { told = u; sheet = sheetOf qs }) ++ rest′
-    → (t ≡ u) × (sheetOf ps ≡ sheetOf qs) × (rest ≡ rest′)

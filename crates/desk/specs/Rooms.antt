@@ -11,7 +11,7 @@ use Rattle.replay.specs.Replay.{played}
 use Rattle.replay.specs.Writer.{schedule}
 use Rattle.order.specs.Order.{Reached}
 use Rattle.review.specs.Judge.{put, generations}
-use Rattle.desk.specs.declared.conclusion.Conclusion.{Conclusion}
+use Rattle.report.specs.declared.Conclusion.{Conclusion}
 use Rattle.desk.specs.declared.conclusion.Concluded.{Concluded}
 use Rattle.desk.specs.Conclusion.{readAs, ofTables, ofText}
 

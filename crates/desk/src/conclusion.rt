@@ -3,16 +3,10 @@ ghost use Rattle.desk.specs.Rooms.{FullRooms, FullTables, JudgesTables, 
 use notation::Reading;
 use notation::read;
 use replay::write_schedule;
+use report::Conclusion;
 use review::review;
 use sheet::Sheet;
 use tables::Table;
-use tables::Told;
-
-// A verdict or a refusal with its place, and the fault sheet.
-pub(crate) struct Conclusion {
-    pub(crate) told: Told,
-    pub(crate) sheet: Sheet,
-}
 
 // What is concluded from a text, and how many numbers its two tables have; none where it is refused.
 pub(crate) struct Concluded {

@@ -3,14 +3,21 @@ ghost use Rattle.desk.specs.Promise.{TextReviewed};
 ghost use Rattle.desk.specs.Evidence.{TextEvidenced};
 use crate::conclusion::Full;
 use crate::conclusion::conclude;
-use crate::report::print;
 use exhibits::put_exhibits;
+use report::print;
 use tables::Table;
 
 mod conclusion; // a text read, scheduled and judged
-mod report; // the lines of the report
 
-pub use report::Report;
+// The sizes of report rooms.
+pub struct Report;
+
+impl Report {
+    // a report room has at least so many bytes
+    pub const BYTES: usize = 192;
+    // one with evidence has 1,600 more for each of 32 schedules: two figures and a space for each of 512 steps, and 64 for the line above
+    pub const EVIDENCE_BYTES: usize = 192 + 32 * 1600;
+}
 
 // Reads a text, writes a schedule, judges it and prints. Its own rooms are full ones on the stack.
 #[no_mangle]

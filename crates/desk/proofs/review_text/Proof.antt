@@ -1,7 +1,7 @@
 -- `review_text` meets its contract. Assumes nothing.
 use native.Mathlib.Omega.{arith}
 use borrow.Author.Needs.{needs}
-use Rattle.desk.specs.Report.{leastRoom}
+use Rattle.desk.specs.Promise.{leastRoom}
 use Rattle.desk.proofs.Tabled.{full-numbers, full-threads, full-rows, full-words}
 use Rattle.desk.proofs.Reports.{refused-room, reviewed-text}
 use Rattle.desk.proofs.review_text.Statement.{statement}

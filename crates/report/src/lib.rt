@@ -1,21 +1,17 @@
-// The lines of the report.
+// The report of a conclusion: its lines, into a room.
 ghost use Rattle.printing.specs.Putting.{PutsBytes};
-ghost use Rattle.desk.specs.Report.{twoNumbers, verdictLine, totalLine, pairLines, report};
+ghost use Rattle.report.specs.Report.{twoNumbers, verdictLine, totalLine, pairLines, report};
 ghost use Rattle.sheet.specs.Sheet.{keptPairs};
-use crate::conclusion::Conclusion;
 use printing::put;
 use printing::put_number;
 use sheet::Sheet;
 use sheet::kept;
 use tables::Told;
 
-pub struct Report;
-
-impl Report {
-    // a report room has at least so many bytes
-    pub const BYTES: usize = 192;
-    // one with evidence has 1,600 more for each of 32 schedules: two figures and a space for each of 512 steps, and 64 for the line above
-    pub const EVIDENCE_BYTES: usize = 192 + 32 * 1600;
+// A verdict or a refusal with its place, and the fault sheet.
+pub struct Conclusion {
+    pub told: Told,
+    pub sheet: Sheet,
 }
 
 // Two numbers, a space between them, and the line's end.
@@ -61,7 +57,7 @@ fn put_pairs(room: &mut [u8], at: usize, sheet: Sheet) -> usize
 }
 
 // The whole report, at the start of a room.
-pub(crate) fn print(room: &mut [u8], concluded: Conclusion) -> usize
+pub fn print(room: &mut [u8], concluded: Conclusion) -> usize
     ensures { λ r. ⌜ PutsBytes (now (room .entry)) (now (room .exit)) 0 (report concluded) r ⌝ }
 {
     let after_verdict = put_verdict(room, 0, concluded.told);

@@ -4,12 +4,8 @@ use Prim.Native.Nat.{ℕ}
 use Rattle.tables.specs.declared.verdict.Told.{Told}
 use Rattle.sheet.specs.declared.Pair.{Pair}
 use Rattle.sheet.specs.Sheet.{keptPairs}
-use Rattle.desk.specs.declared.conclusion.Conclusion.{Conclusion}
+use Rattle.report.specs.declared.Conclusion.{Conclusion}
 use Rattle.printing.specs.Figures.{figures}
-
--- a report room has at least so many bytes
-unfoldable pub leastRoom : ℕ
-leastRoom = 192
 
 abbrev pub space : ℕ
 space = 32

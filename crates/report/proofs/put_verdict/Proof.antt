@@ -1,9 +1,9 @@
 -- `put_verdict` meets its contract. Assumes nothing.
 use borrow.Author.Needs.{needs}
 use Rattle.printing.proofs.Placing.{puts-on, puts-long}
-use Rattle.desk.specs.Report.{verdictLine}
-use Rattle.desk.proofs.report.put_verdict.Statement.{statement}
-use Rattle.desk.proofs.report.put_verdict.Tie as tie
+use Rattle.report.specs.Report.{verdictLine}
+use Rattle.report.proofs.put_verdict.Statement.{statement}
+use Rattle.report.proofs.put_verdict.Tie as tie
 
 returns : tie.Need-returns
 unfolding verdictLine

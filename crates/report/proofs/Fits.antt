@@ -5,10 +5,10 @@ use native.Mathlib.Omega.{arith}
 use lib.ListN.{length, getD, take, length-append}
 use Rattle.sheet.specs.declared.Pair.{Pair}
 use Rattle.sheet.specs.Sheet.{mostKept, pair}
-use Rattle.desk.specs.declared.conclusion.Conclusion.{Conclusion}
-use Rattle.desk.specs.Report.{leastRoom, twoNumbers, pairLines, report}
+use Rattle.report.specs.declared.Conclusion.{Conclusion}
+use Rattle.report.specs.Report.{twoNumbers, pairLines, report}
 use Rattle.printing.proofs.Numerals.{figures-long}
-use Rattle.desk.proofs.Lines.{two-long, verdict-long, total-long, report-long}
+use Rattle.report.proofs.Lines.{two-long, verdict-long, total-long, report-long}
 
 -- numbers below 1,000
 abbrev pub Short : Pair → Type 0
@@ -33,10 +33,6 @@ pairs-short (suc n) (p ∷ ps) h =
 -- 27 and 13 bytes at most, and sixteen lines of pairs
 unfoldable pub longest : ℕ
 longest = 168
-
-pub longest-fits : longest ≤ leastRoom
-unfolding longest leastRoom
-longest-fits = omega arith
 
 pub report-short : (c : Conclusion) → c .told .number < 100 → c .told .place < 100000 → c .told .also < 1000 → c .sheet .total < 1000000
     → ((k : ℕ) → k < mostKept → Short (getD (c .sheet .pairs) k (pair 0 0))) → length (report c) ≤ longest

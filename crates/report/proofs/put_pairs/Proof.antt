@@ -7,10 +7,10 @@ use borrow.Author.Needs.{needs}
 use Rattle.sheet.specs.Sheet.{mostKept, pair}
 use Rattle.printing.specs.Putting.{PutsBytes}
 use Rattle.printing.proofs.Placing.{puts-none, puts-on, puts-long}
-use Rattle.desk.specs.Report.{pairLines}
-use Rattle.desk.proofs.Lines.{pairs-next}
-use Rattle.desk.proofs.report.put_pairs.Statement.{statement}
-use Rattle.desk.proofs.report.put_pairs.Tie as tie
+use Rattle.report.specs.Report.{pairLines}
+use Rattle.report.proofs.Lines.{pairs-next}
+use Rattle.report.proofs.put_pairs.Statement.{statement}
+use Rattle.report.proofs.put_pairs.Tie as tie
 
 abbrev Inv-loop : tie.InvT-loop
 Inv-loop room₀ at sheet lines next₀ i₀ room next i =

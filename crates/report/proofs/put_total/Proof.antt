@@ -1,9 +1,9 @@
 -- `put_total` meets its contract. Assumes nothing.
 use borrow.Author.Needs.{needs}
 use Rattle.printing.proofs.Placing.{puts-on, puts-long}
-use Rattle.desk.specs.Report.{totalLine}
-use Rattle.desk.proofs.report.put_total.Statement.{statement}
-use Rattle.desk.proofs.report.put_total.Tie as tie
+use Rattle.report.specs.Report.{totalLine}
+use Rattle.report.proofs.put_total.Statement.{statement}
+use Rattle.report.proofs.put_total.Tie as tie
 
 returns : tie.Need-returns
 unfolding totalLine

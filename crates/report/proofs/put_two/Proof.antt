@@ -1,9 +1,9 @@
 -- `put_two` meets its contract. Assumes nothing.
 use borrow.Author.Needs.{needs}
 use Rattle.printing.proofs.Placing.{puts-on, puts-long}
-use Rattle.desk.specs.Report.{twoNumbers}
-use Rattle.desk.proofs.report.put_two.Statement.{statement}
-use Rattle.desk.proofs.report.put_two.Tie as tie
+use Rattle.report.specs.Report.{twoNumbers}
+use Rattle.report.proofs.put_two.Statement.{statement}
+use Rattle.report.proofs.put_two.Tie as tie
 
 returns : tie.Need-returns
 unfolding twoNumbers

@@ -1,9 +1,9 @@
 -- `print` meets its contract. Assumes nothing.
 use borrow.Author.Needs.{needs}
 use Rattle.printing.proofs.Placing.{puts-on, puts-long}
-use Rattle.desk.specs.Report.{report}
-use Rattle.desk.proofs.report.print.Statement.{statement}
-use Rattle.desk.proofs.report.print.Tie as tie
+use Rattle.report.specs.Report.{report}
+use Rattle.report.proofs.print.Statement.{statement}
+use Rattle.report.proofs.print.Tie as tie
 
 returns : tie.Need-returns
 unfolding report

@@ -1,0 +1,15 @@
+-- What can be told from a report.
+use mathlib.Core.Path.{_≡_}
+use mathlib.Core.List.{List, _++_}
+use Prim.Native.Nat.{ℕ}
+use Rattle.tables.specs.declared.verdict.Told.{Told}
+use Rattle.sheet.specs.declared.Pair.{Pair}
+use Rattle.sheet.specs.Sheet.{sheetOf}
+use Rattle.report.specs.Report.{report}
+
+-- A report tells its conclusion again, whatever stands after it in the room: verdict, places, total and kept pairs.
+abbrev pub ToldAgain : Type 0
+ToldAgain =
+    (t u : Told) (ps qs : List Pair) (rest rest′ : List ℕ)
+    → report (record { told = t; sheet = sheetOf ps }) ++ rest ≡ report (record { told = u; sheet = sheetOf qs }) ++ rest′
+    → (t ≡ u) × (sheetOf ps ≡ sheetOf qs) × (rest ≡ rest′)
