@@ -47,11 +47,35 @@ extern "C" {
  * to either during the call. Neither pointer may be null, not even with length 0: pass the address of any byte then.
  *
  * It keeps nothing between calls: the archive has no variables, so calls from several threads at once, each with its own report room, do not
- * meet. It takes no heap, opens nothing and prints nothing. It works on the stack: about 56,000 bytes were measured below the caller's frame for every
- * text that was judged, and 3,000 less for refused ones. Nothing proves that figure, and another build may have another:
+ * meet. It takes no heap, opens nothing and prints nothing. It works on the stack: about 92,000 bytes were measured below the caller's frame for every
+ * text that was judged, and at least 9,000 less for refused ones. Nothing proves that figure, and another build may have another:
  * leave it 128 KiB.
  */
 uint32_t review_text(const uint8_t *text, size_t text_len, uint8_t *report, size_t report_len);
+
+/*
+ * Reviews as review_text does, answers the same number and prints the same report; for 10 and 11 it prints below it schedules that show the verdict. Each
+ * schedule has two lines: one in words that says what it shows, and one with the schedule, the thread of each step, numbered from 0 in the order of the
+ * text, with single spaces between:
+ *
+ *     10   one schedule, which is not the one that was judged, and above it one of
+ *              command C gets generation G, not H                       H in the schedule that was judged, and C is the lowest such command
+ *              command C comes to a barrier that expects another count  it ends there, as for 7
+ *              deadlock, a thread waits at command C                    it ends there, as for 8
+ *              barrier B still waits for more                           all threads have ended, as for 9
+ *     11   for each pair X Y of the report, in its order, two schedules
+ *              command X comes before command Y
+ *              command Y comes before command X
+ *
+ * The schedule that is judged always lets the first thread step that can. Each one printed is legal and complete: every step can be made, and it ends where no
+ * thread can step or at the first count that differs. Generations of a barrier are counted from 1. A later build may print other schedules that show the same.
+ *
+ * What is printed is plain ASCII as above, each line closed by one newline, and has at most 51392 bytes: 192 for the report, and 1600 for each of at most
+ * 32 schedules with its line. Bytes of `report` after it keep what they held. 14 is answered, and `report` is untouched, if `report_len` is under 51392, whatever the text.
+ *
+ * All else is as for review_text, but that about 98,000 bytes of stack were measured: leave it 128 KiB too.
+ */
+uint32_t review_text_evidence(const uint8_t *text, size_t text_len, uint8_t *report, size_t report_len);
 
 #ifdef __cplusplus
 }

@@ -1,11 +1,12 @@
 /*
  * A review bench, as a user of the text review would write one.
  *
- *   bench FILE...   reviews each file; prints a line `FILE answered N` and then the report
- *   bench --self    tries the edges of review_text
+ *   bench FILE...              reviews each file; prints a line `FILE answered N` and then the report
+ *   bench --evidence FILE...   the same with evidence
+ *   bench --self               tries the edges of review_text and review_text_evidence
  *
  * Every call stands between guard bytes, and is made twice, over two different fillings of the report room. The bench ends with
- * status 1 and one line on standard error if a guard byte, a byte of the text or a byte after the report has changed, if a report is not of the
+ * status 1 and one line on standard error if a guard byte, a byte of the text or a byte after the report has changed, if a report or its evidence is not of the
  * form that include/desk.h tells, or if the two reports differ. It ends with status 2 if it cannot read a file.
  */
 #include <stdio.h>
@@ -15,8 +16,16 @@
 #include "../include/desk.h"
 
 #define GUARD 64
-#define MOST_ROOM 512
+#define MOST_ROOM 52000
 
+/* One of the two functions, and the least room that it asks for. */
+struct door {
+    uint32_t (*review)(const uint8_t *text, size_t text_len, uint8_t *report, size_t report_len);
+    size_t least;
+    int has_evidence;
+};
+
+static const struct door plain = {review_text, 192, 0}, with_evidence = {review_text_evidence, 51392, 1};
 static const char *reviewing = "";
 static unsigned long calls = 0;
 
@@ -72,8 +81,38 @@ static const uint8_t *word(const uint8_t *at, const uint8_t *end, const char *ex
     return at + length;
 }
 
-/* The length of the report at the start of a room, by its own lines; its number must be the answer. */
-static size_t report_length(const uint8_t *room, size_t room_len, uint32_t answer)
+/* One or more bytes of plain ASCII and a newline. */
+static const uint8_t *line_of_words(const uint8_t *at, const uint8_t *end)
+{
+    const uint8_t *from = at;
+    while (at != NULL && at < end && *at >= ' ' && *at <= '~')
+        at++;
+    return at == from ? NULL : word(at, end, "\n");
+}
+
+/* Numbers of threads, single spaces between, and a newline. */
+static const uint8_t *line_of_steps(const uint8_t *at, const uint8_t *end)
+{
+    unsigned long thread = 0;
+    at = number(at, end, &thread);
+    while (word(at, end, " ") != NULL && thread < 64)
+        at = number(word(at, end, " "), end, &thread);
+    return thread < 64 ? word(at, end, "\n") : NULL;
+}
+
+/* Where the evidence ends: one schedule for 10, two a pair for 11, each below its line. */
+static const uint8_t *after_evidence(const uint8_t *at, const uint8_t *end, uint32_t answer, unsigned long pairs)
+{
+    unsigned long schedules = answer == 10 ? 1 : answer == 11 ? 2 * pairs : 0;
+    while (schedules-- > 0)
+        at = line_of_steps(line_of_words(at, end), end);
+    if (at == NULL)
+        fail("the evidence is not of its form");
+    return at;
+}
+
+/* The length of what is printed at the start of a room, by its own lines; the report's number must be the answer. */
+static size_t printed_length(const struct door *door, const uint8_t *room, size_t room_len, uint32_t answer)
 {
     const uint8_t *end = room + room_len;
     unsigned long verdict = 0, p = 0, q = 0, total = 0;
@@ -91,14 +130,18 @@ static size_t report_length(const uint8_t *room, size_t room_len, uint32_t answe
         fail("the report is not of its form");
     if (verdict != answer)
         fail("the answer is not the report's number");
+    if (at - room > 192)
+        fail("the report is too long");
+    if (door->has_evidence)
+        at = after_evidence(at, end, answer, total < 16 ? total : 16);
     return (size_t)(at - room);
 }
 
-/* One call between guard bytes, over one filling. The report goes to `out`, its length is answered. */
-static size_t call(const uint8_t *text, size_t text_len, size_t room_len, int turn, uint32_t *answer, uint8_t *out)
+/* One call between guard bytes, over one filling. What is printed goes to `out`, its length is answered. */
+static size_t call(const struct door *door, const uint8_t *text, size_t text_len, size_t room_len, int turn, uint32_t *answer, uint8_t *out)
 {
     uint8_t *lent = malloc(GUARD + text_len + GUARD);
-    uint8_t room[GUARD + MOST_ROOM + GUARD];
+    static uint8_t room[GUARD + MOST_ROOM + GUARD];
     if (lent == NULL || room_len > MOST_ROOM)
         fail("no memory");
     fill(lent, GUARD + text_len + GUARD, turn);
@@ -106,7 +149,7 @@ static size_t call(const uint8_t *text, size_t text_len, size_t room_len, int tu
         memcpy(lent + GUARD, text, text_len);
     fill(room, sizeof room, turn);
 
-    *answer = review_text(lent + GUARD, text_len, room + GUARD, room_len);
+    *answer = door->review(lent + GUARD, text_len, room + GUARD, room_len);
     calls++;
 
     if (!is_filled(lent, 0, GUARD, turn) || !is_filled(lent, GUARD + text_len, GUARD + text_len + GUARD, turn))
@@ -118,7 +161,7 @@ static size_t call(const uint8_t *text, size_t text_len, size_t room_len, int tu
     free(lent);
     size_t length = 0;
     if (*answer != 14) {
-        length = report_length(room + GUARD, room_len, *answer);
+        length = printed_length(door, room + GUARD, room_len, *answer);
         memcpy(out, room + GUARD, length);
     }
     if (!is_filled(room, GUARD + length, GUARD + room_len, turn))
@@ -127,28 +170,33 @@ static size_t call(const uint8_t *text, size_t text_len, size_t room_len, int tu
 }
 
 /* Both fillings; the report and its length, and the answer. */
-static size_t review(const uint8_t *text, size_t text_len, size_t room_len, uint32_t *answer, uint8_t *out)
+static size_t review(const struct door *door, const uint8_t *text, size_t text_len, size_t room_len, uint32_t *answer, uint8_t *out)
 {
-    uint8_t again[MOST_ROOM];
+    static uint8_t again[MOST_ROOM];
     uint32_t answer_again;
-    size_t length = call(text, text_len, room_len, 0, answer, out);
-    size_t length_again = call(text, text_len, room_len, 1, &answer_again, again);
+    size_t length = call(door, text, text_len, room_len, 0, answer, out);
+    size_t length_again = call(door, text, text_len, room_len, 1, &answer_again, again);
     if (*answer != answer_again || length != length_again || memcmp(out, again, length) != 0)
         fail("two reviews of one text differ");
     return length;
 }
 
 /* A text must be answered so, with this report; "" where the report room stays untouched. */
-static void expect(const char *name, const void *text, size_t text_len, size_t room_len, uint32_t answer, const char *report)
+static void expect_of(const struct door *door, const char *name, const void *text, size_t text_len, size_t room_len, uint32_t answer, const char *report)
 {
-    uint8_t out[MOST_ROOM];
+    static uint8_t out[MOST_ROOM];
     uint32_t got;
     reviewing = name;
-    size_t length = review(text, text_len, room_len, &got, out);
+    size_t length = review(door, text, text_len, room_len, &got, out);
     if (got != answer || length != strlen(report) || memcmp(out, report, length) != 0) {
         fprintf(stderr, "bench: %s: expected %lu and\n%sgot %lu and\n%.*s", name, (unsigned long)answer, report, (unsigned long)got, (int)length, (const char *)out);
         exit(1);
     }
+}
+
+static void expect(const char *name, const void *text, size_t text_len, size_t room_len, uint32_t answer, const char *report)
+{
+    expect_of(&plain, name, text, text_len, room_len, answer, report);
 }
 
 static void try_edges(void)
@@ -186,13 +234,53 @@ static void try_edges(void)
         const char *report = byte == ' ' || byte == '\n' ? "verdict 12 place 1 0\ntotal 0\n" : unfit;
         expect("a text of one byte", &one, 1, 192, 12, report);
     }
-    printf("bench: %lu calls, every one as expected\n", calls);
 }
 
-static void review_file(const char *path)
+/* Each of these has one other schedule, or one for each order: no other evidence shows the fault. */
+static void try_evidence(void)
+{
+    const char *race = "write 7; return || read 7; return", *reuse = "arrive 0 1; return || arrive 0 1; return";
+    const char *orders = "verdict 11 place 0 1\ntotal 1\n0 1\ncommand 0 comes before command 1\n0 1\ncommand 1 comes before command 0\n1 0\n";
+    const char *other = "verdict 10 place 0 1\ntotal 1\n0 1\ncommand 0 gets generation 2, not 1\n1 0\n";
+    const char *ordered = "write 7; arrive 0 2; return || sync 0 2; read 7; return";
+    const size_t short_rooms[] = {0, 1, 191, 192, 193, 1600, 51390, 51391};
+
+    for (size_t i = 0; i < sizeof short_rooms / sizeof *short_rooms; i++) {
+        expect_of(&with_evidence, "a room under 51,392 bytes, a race", race, strlen(race), short_rooms[i], 14, "");
+        expect_of(&with_evidence, "a room under 51,392 bytes, no text", "", 0, short_rooms[i], 14, "");
+    }
+    expect_of(&with_evidence, "a race", race, strlen(race), 51392, 11, orders);
+    expect_of(&with_evidence, "a race and a large room", race, strlen(race), MOST_ROOM, 11, orders);
+    expect_of(&with_evidence, "a reuse fault", reuse, strlen(reuse), 51392, 10, other);
+    expect_of(&with_evidence, "a reuse fault and a room of 51,393 bytes", reuse, strlen(reuse), 51393, 10, other);
+    expect_of(&with_evidence, "a clean pair", ordered, strlen(ordered), 51392, 0, "verdict 0 place 0 0\ntotal 0\n");
+    expect_of(&with_evidence, "the empty text", "", 0, 51392, 12, "verdict 12 place 0 0\ntotal 0\n");
+}
+
+/* As long as evidence gets: sixteen races of 512 commands, all in threads of two digits. Its form is looked at. */
+static void try_longest(void)
+{
+    static char text[32768];
+    static uint8_t out[MOST_ROOM];
+    uint32_t answer;
+    size_t n = 0;
+    for (int thread = 0; thread < 64; thread++) {
+        int commands = thread < 10 ? 0 : thread < 63 ? 9 : 512 - 53 * 9;
+        n += (size_t)sprintf(text + n, thread == 0 ? "" : "||");
+        while (commands-- > 0)
+            n += (size_t)sprintf(text + n, "write 0;");
+        n += (size_t)sprintf(text + n, "return");
+    }
+    reviewing = "the longest evidence";
+    size_t length = review(&with_evidence, (const uint8_t *)text, n, 51392, &answer, out);
+    if (answer != 11 || length < 32 * 512 * 3)
+        fail("the evidence is too short");
+}
+
+static void review_file(const struct door *door, const char *path)
 {
     static uint8_t text[65536]; /* more than a text may have; of a longer file the rest is not looked at */
-    uint8_t out[MOST_ROOM];
+    static uint8_t out[MOST_ROOM];
     uint32_t answer;
     reviewing = path;
     FILE *file = fopen(path, "rb");
@@ -206,7 +294,7 @@ static void review_file(const char *path)
         exit(2);
     }
     fclose(file);
-    size_t written = review(text, length, 192, &answer, out);
+    size_t written = review(door, text, length, door->least, &answer, out);
     printf("%s answered %lu\n", path, (unsigned long)answer);
     fwrite(out, 1, written, stdout);
 }
@@ -214,14 +302,18 @@ static void review_file(const char *path)
 int main(int argc, char **argv)
 {
     if (argc < 2) {
-        fprintf(stderr, "usage: bench FILE... | bench --self\n");
+        fprintf(stderr, "usage: bench [--evidence] FILE... | bench --self\n");
         return 2;
     }
     if (argc == 2 && strcmp(argv[1], "--self") == 0) {
         try_edges();
+        try_evidence();
+        try_longest();
+        printf("bench: %lu calls, every one as expected\n", calls);
     } else {
-        for (int i = 1; i < argc; i++)
-            review_file(argv[i]);
+        int is_option = strcmp(argv[1], "--evidence") == 0;
+        for (int i = is_option ? 2 : 1; i < argc; i++)
+            review_file(is_option ? &with_evidence : &plain, argv[i]);
     }
     if (fflush(stdout) != 0) {
         fprintf(stderr, "bench: standard output cannot be written\n");

@@ -1,6 +1,6 @@
 /*
- * Holds the archives to the reference of document 01 (reference.c), the evidence of a review to its words (evidence.c), and demand 3 to all schedules of small
- * programs (schedules.c).
+ * Holds the archives to the reference of document 01 (reference.c), the evidence of a review to its words (evidence.c; printed.c where it is printed), and demand 3 to
+ * all schedules of small programs (schedules.c).
  *
  *   compare SEED COUNT         COUNT numbered cases of that seed; each makes a few calls
  *   compare SEED MINUTESm      as many cases as fit into so many minutes
@@ -23,33 +23,36 @@
 #include "evidence.h"
 #include "inputs.h"
 #include "lent.h"
+#include "printed.h"
 #include "schedules.h"
 
 enum { ANSWER = 36, WORDS = ROWS * ROWS / 32, EVIDENCE = 32 * ROWS, OFTEN = 10 };
-enum door { REVIEW, SCHEDULE, READING, TEXTS, CLOSING, DOORS };
+enum door { REVIEW, SCHEDULE, READING, TEXTS, EXHIBITS, CLOSING, DOORS };
 enum mark { PAST_SIXTEEN, FULL_TABLE, ALL_THREADS, WRAPPED, BYTES, COMMANDS, MANY_THREADS, ROOM, MANY_ROWS, WIDE_ROWS, DIGIT_0, DIGIT_1, DIGIT_2, DIGIT_4, LOWER_0, LOWER_1, TABLES_FIRST,
-            LONG_REUSE, LONG_RACES, TO_THE_LAST, FULL_REPORT, AGAIN, ORDERED, MARKS };
+            LONG_REUSE, LONG_RACES, TO_THE_LAST, FULL_REPORT, AGAIN, ORDERED, LINE_0, LINE_7, LINE_8, ALL_LINES, FAR_LINES, MARKS };
 
-static const char *const doors[DOORS] = {"probe_review", "probe_schedule", "probe_read", "review_text", "probe_close"};
+static const char *const doors[DOORS] = {"probe_review", "probe_schedule", "probe_read", "review_text", "review_text_evidence", "probe_close"};
 static const char *const marks[MARKS] = {"a sheet past sixteen pairs", "a review of over 500 rows up to 0, 10 or 11", "a review of 64 threads up to 0, 10 or 11",
                                          "lengths that add up if the sum wraps", "13 for bytes", "13 for commands", "13 for threads", "13 for a room",
                                          "closing of over 100 rows", "closing of rows of eight words or more", "4 with digit 0", "4 with digit 1", "4 with digit 2", "4 with digit 4",
                                          "4 with digit 0, the evidence room short too", "4 with digit 1, the evidence room short too", "1 to 3, the evidence room short too",
                                          "evidence for 10 of over 100 rows", "evidence for 11 of over 100 rows", "evidence to the room's last number", "a report of sixteen pairs",
-                                         "all schedules agree and a barrier is used again", "all schedules agree and a barrier orders a conflict"};
+                                         "all schedules agree and a barrier is used again", "all schedules agree and a barrier orders a conflict",
+                                         "the line of another generation", "the line of 7", "the line of 8", "the lines of sixteen races", "printed evidence of over 100 rows"};
 /* The answers that each door has to give OFTEN. */
-static const uint32_t answers[DOORS] = {0x4fff, 0x401f, 0x7001, 0x7f89, 0x3};
+static const uint32_t answers[DOORS] = {0x4fff, 0x401f, 0x7001, 0x7f89, 0x7f89, 0x3};
 
 static unsigned long long seed_given, number;
 static unsigned long calls[DOORS], answered[DOORS][16], marked[MARKS], programs, schedules;
 static unsigned long evident[2], ended[16]; /* reviews whose evidence was checked, for 10 and for 11; how the second schedules of 10 ended */
+static unsigned long printed[2];            /* text reviews whose printed evidence was checked, for 10 and for 11 */
 static enum door door;
 static volatile sig_atomic_t is_called; /* the archive's code runs, not the test's */
 static struct random drawn;
 
 /* ---- what is lent, in one call */
 
-static struct lent commands, lengths, schedule, relation, generations, evidence, answer, text, report, tables_room[2];
+static struct lent commands, lengths, schedule, relation, generations, evidence, answer, text, report, exhibits, tables_room[2];
 static struct lent *now[8];
 static size_t lent_now;
 
@@ -81,6 +84,17 @@ static void fail_evidence(const struct shown *shown, const uint32_t *written, si
     for (size_t i = 0; i < count && i < evidence.bytes / 4; i++)
         fprintf(stderr, " %lu", (unsigned long)written[i]);
     fprintf(stderr, "\n");
+    tell_input();
+    exit(1);
+}
+
+static void fail_printed(const struct shown *shown, const uint8_t *bytes, size_t most)
+{
+    size_t length = 0;
+    while (length < most && (bytes[length] == '\n' || (bytes[length] >= ' ' && bytes[length] <= '~')))
+        length++;
+    fprintf(stderr, "compare: seed %llu, number %llu, %s: what is printed after the report: %s, at %lu:\n%.*s\n", seed_given, number, doors[door], shown->flaw,
+            (unsigned long)shown->at, (int)length, (const char *)bytes);
     tell_input();
     exit(1);
 }
@@ -184,11 +198,12 @@ static struct rooms just_enough(size_t rows)
     return lent;
 }
 
-static size_t some_report_room(void)
+/* Most of them just enough, some a little more, and some less. */
+static size_t some_report_room(uint32_t least)
 {
     if (below(&drawn, 40) == 0)
-        return chance(&drawn, 50) ? REPORT - 1 : below(&drawn, REPORT);
-    return chance(&drawn, 50) ? REPORT : REPORT + below(&drawn, 100);
+        return chance(&drawn, 50) ? least - 1 : below(&drawn, least);
+    return chance(&drawn, 50) ? least : least + below(&drawn, 100);
 }
 
 static struct tables tables_of(const struct program *program)
@@ -385,28 +400,125 @@ static void try_read(const uint8_t *bytes, size_t length, size_t told)
     end_call(got, expected.verdict.number);
 }
 
-static void try_text(const uint8_t *bytes, size_t length, size_t report_room)
+static uint8_t *lend_report(struct lent *lent, size_t bytes)
 {
-    struct verdict expected;
-    char printed[2 * REPORT];
-    begin_call(TEXTS);
-    now[lent_now++] = &text;
-    const uint8_t *t = lend(&text, bytes, length, 1, chance(&drawn, 50));
-    now[lent_now++] = &report;
+    now[lent_now++] = lent;
     int at_end = chance(&drawn, 50);
-    uint8_t *r = lend_room(&report, report_room, 1, at_end, draw(&drawn));
+    return lend_room(lent, bytes, 1, at_end, draw(&drawn));
+}
+
+static const uint8_t *lend_text(const uint8_t *bytes, size_t length)
+{
+    now[lent_now++] = &text;
+    return lend(&text, bytes, length, 1, chance(&drawn, 50));
+}
+
+static void try_report(const uint8_t *bytes, size_t length, const struct text_review *expected, size_t report_room)
+{
+    char front[2 * REPORT];
+    begin_call(TEXTS);
+    const uint8_t *t = lend_text(bytes, length);
+    uint8_t *r = lend_report(&report, report_room);
     is_called = 1;
     uint32_t got = review_text(t, length, r, report_room);
     is_called = 0;
-    size_t n = review_of_text(bytes, length, report_room, &expected, printed);
+    uint32_t answer = text_answer(expected, report_room, REPORT);
+    size_t n = answer == 14 ? 0 : print_report(&expected->review, front);
     if (n > report_room)
         fail("the length of the report", 0, n, report_room);
-    memcpy(must_hold(&report), printed, n);
+    memcpy(must_hold(&report), front, n);
     size_t lines = 0;
     for (size_t i = 0; i < n; i++)
-        lines += printed[i] == '\n';
+        lines += front[i] == '\n';
     marked[FULL_REPORT] += lines == 2 + KEPT;
-    end_call(got, expected.number);
+    end_call(got, answer);
+}
+
+static void mark_printed(const struct text_review *expected, const struct shown *shown)
+{
+    uint32_t number = expected->review.verdict.number;
+    if (number != 10 && number != 11)
+        return;
+    printed[number == 11]++;
+    marked[LINE_0] += number == 10 && shown->ended == 0;
+    marked[LINE_7] += number == 10 && shown->ended == 7;
+    marked[LINE_8] += number == 10 && shown->ended == 8;
+    marked[ALL_LINES] += number == 11 && expected->review.sheet.total >= KEPT;
+    marked[FAR_LINES] += rows_of(&expected->tables) > 100;
+}
+
+static void must_be_seen(const struct text_review *expected, const uint8_t *bytes, size_t length, const char *what)
+{
+    size_t ignored;
+    struct shown shown = check_printed(expected, bytes, length, &ignored);
+    if (shown.flaw != NULL)
+        return;
+    shown.flaw = what;
+    fail_printed(&shown, bytes, length);
+}
+
+/* The checker, tried on what says something else: no last byte, another number in words, another byte that is no digit. Other digits in a schedule may show the same. */
+static void try_other_bytes(const struct text_review *expected, const uint8_t *evidence, size_t length)
+{
+    static uint8_t other[PRINTED];
+    static size_t in_words[PRINTED], no_digits[PRINTED];
+    uint32_t numbers = 0, others = 0, lines = 0;
+    for (size_t i = 0; i < length; i++) {
+        if (evidence[i] < '0' || evidence[i] > '9')
+            no_digits[others++] = i;
+        else if (lines % 2 == 0)
+            in_words[numbers++] = i;
+        lines += evidence[i] == '\n';
+    }
+    must_be_seen(expected, evidence, length - 1, "the checker took it without its last byte");
+    memcpy(other, evidence, length);
+    size_t at = in_words[below(&drawn, numbers)];
+    other[at] = (uint8_t)('0' + (evidence[at] - '0' + 1 + below(&drawn, 9)) % 10);
+    must_be_seen(expected, other, length, "the checker took another number");
+    other[at] = evidence[at];
+    other[no_digits[below(&drawn, others)]] ^= (uint8_t)(1 + below(&drawn, 255));
+    must_be_seen(expected, other, length, "the checker took another byte");
+}
+
+/* The room must begin with the report; what is printed after it must show the verdict, and then the room must hold just that, and after it what was lent. */
+static void must_hold_printed(const struct text_review *expected, const uint8_t *got, size_t room)
+{
+    char front[2 * REPORT];
+    size_t n = print_report(&expected->review, front), length;
+    memcpy(must_hold(&exhibits), front, n);
+    if (memcmp(got, front, n) != 0)
+        return; /* the comparison of the room tells where */
+    struct shown shown = check_printed(expected, got + n, room - n, &length);
+    if (shown.flaw != NULL)
+        fail_printed(&shown, got + n, room - n);
+    if (n + length > PRINTED)
+        fail("the length of what is printed", 0, n + length, PRINTED);
+    memcpy((uint8_t *)must_hold(&exhibits) + n, got + n, length);
+    mark_printed(expected, &shown);
+    if (length > 0 && below(&drawn, 4) == 0)
+        try_other_bytes(expected, got + n, length);
+}
+
+static void try_exhibits(const uint8_t *bytes, size_t length, const struct text_review *expected, size_t room)
+{
+    begin_call(EXHIBITS);
+    const uint8_t *t = lend_text(bytes, length);
+    uint8_t *r = lend_report(&exhibits, room);
+    is_called = 1;
+    uint32_t got = review_text_evidence(t, length, r, room);
+    is_called = 0;
+    uint32_t answer = text_answer(expected, room, PRINTED);
+    if (got == answer && answer != 14)
+        must_hold_printed(expected, r, room);
+    end_call(got, answer);
+}
+
+static void try_text(const uint8_t *bytes, size_t length)
+{
+    static struct text_review expected;
+    review_of_text(bytes, length, &expected);
+    try_report(bytes, length, &expected, some_report_room(REPORT));
+    try_exhibits(bytes, length, &expected, some_report_room(PRINTED));
 }
 
 /* Every bit is set with one chance. */
@@ -504,11 +616,18 @@ static void tables_case(int damaged)
     }
 }
 
-/* Legal schedules of programs that have faults, most of them with just the rooms that are needed. */
-static void evidence_case(void)
+/* Often a fault; now and then a large table. Answers if it may be large. */
+static int draw_faulty(void)
 {
     int is_big = chance(&drawn, 4);
     faulty_program(&drawn, is_big ? THREADS : 8, is_big ? ROWS : chance(&drawn, 90) ? 14 : 60, &program);
+    return is_big;
+}
+
+/* Legal schedules of programs that have faults, most of them with just the rooms that are needed. */
+static void evidence_case(void)
+{
+    int is_big = draw_faulty();
     struct tables tables = tables_of(&program);
     for (int i = 0; i < (is_big ? 1 : 3); i++) {
         size_t n = legal_schedule(&drawn, &tables, steps);
@@ -526,7 +645,7 @@ static void text_case(void)
     }
     size_t n = make_text(&drawn, &program, bytes);
     try_read(bytes, n, answer_room());
-    try_text(bytes, n, some_report_room());
+    try_text(bytes, n);
 }
 
 static void close_case(void)
@@ -593,7 +712,10 @@ static void try_number(void)
     } else if (which < 300) {
         evidence_case();
     } else {
-        small_program(&drawn, chance(&drawn, 90) ? 16 : 60, &program);
+        if (which < 900)
+            small_program(&drawn, chance(&drawn, 90) ? 16 : 60, &program);
+        else
+            draw_faulty();
         if (which < 650)
             tables_case(chance(&drawn, 30));
         else
@@ -630,9 +752,9 @@ static void print_figures(void)
     unsigned long all = 0;
     for (int d = 0; d < DOORS; d++)
         all += calls[d];
-    printf("%lu inputs: %lu reviews, %lu schedules to write, %lu readings, %lu text reviews, %lu closings; of %lu programs all %lu schedules;", all, calls[REVIEW],
-           calls[SCHEDULE], calls[READING], calls[TEXTS], calls[CLOSING], programs, schedules);
-    printf(" evidence checked of %lu reuse faults and %lu races\n", evident[0], evident[1]);
+    printf("%lu inputs: %lu reviews, %lu schedules to write, %lu readings, %lu text reviews, %lu with evidence, %lu closings; of %lu programs all %lu schedules;", all, calls[REVIEW],
+           calls[SCHEDULE], calls[READING], calls[TEXTS], calls[EXHIBITS], calls[CLOSING], programs, schedules);
+    printf(" evidence checked of %lu reuse faults and %lu races, and as printed of %lu and %lu\n", evident[0], evident[1], printed[0], printed[1]);
 }
 
 /* With COMPARE_DETAILS set: how often each answer and each mark came. */
@@ -661,6 +783,7 @@ static void make_all(void)
     make_lent(&answer, "answer", 4 * (ANSWER + 8));
     make_lent(&text, "text", MOST_TEXT + 64);
     make_lent(&report, "report", REPORT + 100);
+    make_lent(&exhibits, "report", PRINTED + 100);
     make_lent(&tables_room[0], "commands", 4 * MOST_NUMBERS);
     make_lent(&tables_room[1], "lengths", 4 * MOST_LENGTHS);
 }

@@ -89,6 +89,21 @@ static void try_texts(void)
     expect("what these rooms hold", tables, 1, 0, 0);
 }
 
+/* The race of two commands once more, which has one evidence alone. */
+static void try_printed(void)
+{
+    static uint8_t report[51392];
+    const char over[] = "verdict 13 place 0 0\ntotal 0\n", race[] = "write 0;return||write 0;return";
+    const char orders[] = "verdict 11 place 0 1\ntotal 1\n0 1\ncommand 0 comes before command 1\n0 1\ncommand 1 comes before command 0\n1 0\n";
+    uint8_t *room = (uint8_t *)huge;
+    memset(answer, 0, sizeof answer);
+    memset(room, 0, 64);
+    expect("a text, with evidence", review_text_evidence(room, PAST + 6, report, sizeof report), 13, 0, 0);
+    expect("what is printed of it", memcmp(report, over, sizeof over) == 0, 1, 0, 0);
+    expect("a room for evidence", review_text_evidence((const uint8_t *)race, sizeof race - 1, room, PAST), 11, 0, 0);
+    expect("the evidence in it", memcmp(room, orders, sizeof orders) == 0, 1, 0, 0);
+}
+
 int main(void)
 {
     void *all = sizeof(size_t) < 8 ? MAP_FAILED : mmap(NULL, 3 * PAST * 4, PROT_READ | PROT_WRITE, MAP_PRIVATE | MAP_ANONYMOUS | MAP_NORESERVE, -1, 0);
@@ -101,6 +116,7 @@ int main(void)
     try_rooms();
     try_evidence();
     try_texts();
+    try_printed();
     printf("huge: %lu answers, every one as expected\n", answers);
     return 0;
 }

@@ -289,7 +289,7 @@ static void find_races(const struct tables *tables, const uint32_t *thread, stru
 /* ---- Verdict numbers, in the order tested */
 
 /* Verdicts 5 to 9, or 0. "5 and 7 are judged step by step, whichever comes first." */
-static struct verdict replay(const struct tables *tables, const uint32_t *schedule, size_t steps, uint32_t *generations)
+struct verdict replay(const struct tables *tables, const uint32_t *schedule, size_t steps, uint32_t *generations)
 {
     struct state state;
     start(&state);
@@ -539,8 +539,10 @@ void read_text(const uint8_t *text, size_t length, size_t commands_room, size_t 
 }
 
 /* "The report is `verdict V place P Q`, `total T`, then one line a kept pair, each line closed by a newline." */
-static size_t print_report(struct verdict verdict, const struct sheet *sheet, char *report)
+size_t print_report(const struct review *review, char *report)
 {
+    struct verdict verdict = review->verdict;
+    const struct sheet *sheet = &review->sheet;
     int n = sprintf(report, "verdict %lu place %lu %lu\n", (unsigned long)verdict.number, (unsigned long)verdict.p, (unsigned long)verdict.q);
     n += sprintf(report + n, "total %lu\n", (unsigned long)sheet->total);
     for (uint32_t i = 0; i < KEPT && i < sheet->total; i++)
@@ -549,25 +551,25 @@ static size_t print_report(struct verdict verdict, const struct sheet *sheet, ch
 }
 
 /* "The text review reads, writes a schedule, judges it and prints. Its own rooms are full ones." */
-size_t review_of_text(const uint8_t *text, size_t length, size_t report_room, struct verdict *answer, char *report)
+void review_of_text(const uint8_t *text, size_t length, struct text_review *out)
 {
-    static struct reading reading;
     static struct schedule schedule;
-    static struct review judged;
-    /* "14: report room under 192 bytes, tested before all else, room untouched." */
-    *answer = verdict(14, 0, 0);
-    if (report_room < REPORT)
-        return 0;
-    read_text(text, length, 3 * ROWS, THREADS, &reading);
-    *answer = reading.verdict;
+    struct rooms full = {relation_words(ROWS), ROWS, evidence_numbers(ROWS)};
+    struct reading *reading = &out->reading;
+    read_text(text, length, 3 * ROWS, THREADS, reading);
     /* "A refused reading is reported like a verdict, with total 0 and no pairs." */
-    memset(&judged.sheet, 0, sizeof judged.sheet);
-    if (reading.verdict.number == 0) {
-        struct tables tables = {reading.rows, 3 * reading.commands, reading.lengths, reading.threads};
-        struct rooms full = {relation_words(ROWS), ROWS, evidence_numbers(ROWS)};
-        write_schedule(&tables, ROWS, &schedule);
-        review(&tables, schedule.steps, schedule.length, full, &judged);
-        *answer = judged.verdict;
-    }
-    return print_report(*answer, &judged.sheet, report);
+    memset(&out->review.sheet, 0, sizeof out->review.sheet);
+    out->review.verdict = reading->verdict;
+    if (reading->verdict.number != 0)
+        return;
+    struct tables tables = {reading->rows, 3 * reading->commands, reading->lengths, reading->threads};
+    out->tables = tables;
+    write_schedule(&tables, ROWS, &schedule);
+    review(&tables, schedule.steps, schedule.length, full, &out->review);
+}
+
+/* "14: report room under 192 bytes, tested before all else, room untouched." 2026-04: with evidence printed the room needs 51,392 bytes. */
+uint32_t text_answer(const struct text_review *review, size_t room, size_t least)
+{
+    return room < least ? 14 : review->review.verdict.number;
 }

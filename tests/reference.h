@@ -9,7 +9,7 @@
 #include <stdint.h>
 
 enum { ROWS = 512, THREADS = 64, BARRIERS = 16, LAST_ADDRESS = 4095, LAST_COUNT = 1024, KEPT = 16, LAST_NUMBER = 65535 };
-enum { TEXT = 32768, REPORT = 192 };
+enum { TEXT = 32768, REPORT = 192, PRINTED = REPORT + 2 * KEPT * 1600 }; /* PRINTED: a report and its evidence */
 enum { SPELLED_ROWS = TEXT / 6 + 1, SPELLED_THREADS = TEXT / 6 }; /* a text holds no more: `read0;` and `return` have six bytes; one row may be begun */
 enum { READ, WRITE, ARRIVE, SYNC };
 
@@ -70,6 +70,13 @@ struct reading {
     uint32_t rows[3 * SPELLED_ROWS], lengths[SPELLED_THREADS];
 };
 
+/* The review of a text, before it is printed: the tables are told where the reading was accepted, and the verdict is the reading's where it was not. */
+struct text_review {
+    struct reading reading;
+    struct tables tables;
+    struct review review;
+};
+
 size_t rows_of(const struct tables *tables);
 size_t relation_words(size_t rows);
 size_t evidence_numbers(size_t rows);
@@ -82,6 +89,9 @@ int ends_clean(const struct tables *tables, const struct state *state);
 size_t next_command(const struct tables *tables, const struct state *state, uint32_t thread);
 enum did step(const struct tables *tables, struct state *state, uint32_t thread, uint32_t *generations);
 
+/* Verdicts 5 to 9, or 0 where the schedule ends clean. */
+struct verdict replay(const struct tables *tables, const uint32_t *schedule, size_t steps, uint32_t *generations);
+
 /* Chains of one edge or more, from every row to every row. */
 void close_under_chains(size_t rows, uint8_t relation[ROWS][ROWS]);
 int conflict(const struct tables *tables, size_t x, size_t y);
@@ -90,7 +100,12 @@ void review(const struct tables *tables, const uint32_t *schedule, size_t steps,
 void write_schedule(const struct tables *tables, size_t room, struct schedule *out);
 void read_text(const uint8_t *text, size_t length, size_t commands_room, size_t lengths_room, struct reading *out);
 
-/* The report's length, 0 for 14. `report` has twice REPORT bytes, so that a report that is too long can be seen. */
-size_t review_of_text(const uint8_t *text, size_t length, size_t report_room, struct verdict *verdict, char *report);
+void review_of_text(const uint8_t *text, size_t length, struct text_review *out);
+
+/* Answers the report's length. `report` has twice REPORT bytes, so that a report that is too long can be seen. */
+size_t print_report(const struct review *review, char *report);
+
+/* What the text review answers, with a report room of `room` bytes where `least` are asked for. */
+uint32_t text_answer(const struct text_review *review, size_t room, size_t least);
 
 #endif

@@ -48,7 +48,7 @@ make_archives() {
 
 # build_compare PROGRAM: the comparison with the reference, over both archives.
 build_compare() {
-  "${cc[@]}" -std=c99 -pedantic -Wall -Wextra -Werror -O2 -o "$1" tests/compare.c tests/reference.c tests/evidence.c tests/schedules.c tests/lent.c tests/inputs.c \
+  "${cc[@]}" -std=c99 -pedantic -Wall -Wextra -Werror -O2 -o "$1" tests/compare.c tests/reference.c tests/evidence.c tests/printed.c tests/schedules.c tests/lent.c tests/inputs.c \
     target/staticlib/libprobe.a target/staticlib/libdesk.a
 }
 
