@@ -24,6 +24,7 @@ use Rattle.rooms.specs.Refusals.{refused}
 use Rattle.rooms.proofs.Refusals.{admitted}
 use Rattle.review.specs.Judge.{reaches}
 use Rattle.review.specs.Agreement.{number, Reviewed}
+use Rattle.evidence.specs.declared.door.Evidence.{Evidence}
 use Rattle.evidence.specs.Evidence.{Disputes, Orders, against, bothWays, evidenceRoom, evidenceOf}
 use Rattle.evidence.specs.Doors.{shortEvidence, refusedShowing, scheduleAt, Opposes, HoldsEvidence, Evidenced}
 use Rattle.evidence.proofs.Shown.{shown-ten, shown-orders, shown-long, evidence-is}
@@ -78,6 +79,16 @@ module _ {commands lengths σ relation generations : List ℕ} {f : Finding} {re
         nothing = λ a b. none-is (subst (λ (τ : List ℕ). FilledBy τ room room′ n) (nothing-of commands lengths ρ (number f) (f .sheet) a b) F);
       }
 
+-- what `show` left, over the relation room
+pub shown-holds : {commands lengths σ relation generations room : List ℕ} {f : Finding} {relation′ generations′ room′ : List ℕ} {n : ℕ}
+    → refused commands lengths (length relation) (length generations) .number ≡ 0 → Reviewed commands lengths σ relation generations f relation′ generations′
+    → {t : Told} → t ≡ numbered (f .verdict) → FilledBy (evidenceOf commands lengths (related relation′ (rows commands)) (t .number) (f .sheet)) room room′ n
+    → HoldsEvidence commands lengths σ room (record { finding = f; entries = n }) room′
+shown-holds {commands} {lengths} {room = room} {f = f} {relation′ = relation′} {room′ = room′} {n = n} pass R e F =
+    holds R pass
+    (subst (λ (τ : List ℕ). FilledBy τ room room′ n)
+    (ap (λ (t : Told). evidenceOf commands lengths (related relation′ (rows commands)) (t .number) (f .sheet)) e ∙ evidence-is R pass) F)
+
 -- ---- refusals
 
 -- tables and rooms that are not refused here are not refused without evidence
@@ -127,18 +138,11 @@ module _ (commands lengths σ relation generations room : List ℕ) where
         let q : tell 4 4 0 ≡ all = sym (rw (lt-ltb (length room) (evidenceRoom (rows commands)) l)) ∙ or-second refusal (shortEvidence (rows commands) (length room)) pass in
         untouched (ShortRoom 4) q (λ z. absurd (omega (arith, ap (λ (t : Told). t .number) q)))
 
-    module _ {r : Finding} {relation′ generations′ room′ : List ℕ} {n : ℕ} (R : Reviewed commands lengths σ relation generations r relation′ generations′) where
-      pub evidenced : evidenceRoom (rows commands) ≤ length room → {t : Told} → t ≡ numbered (r .verdict)
-          → FilledBy (evidenceOf commands lengths (related relation′ (rows commands)) (t .number) (r .sheet)) room room′ n
-          → Evidenced commands lengths σ relation generations room (record { finding = r; entries = n }) relation′ generations′ room′
-      unfolding refusedShowing
-      evidenced l {t} e F =
-          let q : tell 0 0 0 ≡ all =
-          sym (rw (le-ltb (length room) (evidenceRoom (rows commands)) l)) ∙ or-second refusal (shortEvidence (rows commands) (length room)) pass in
-          let is : evidenceOf commands lengths (related relation′ (rows commands)) (t .number) (r .sheet) ≡ evidenceOf commands lengths (reaches commands lengths σ) (number r) (r .sheet)
-          = ap (λ (t : Told). evidenceOf commands lengths (related relation′ (rows commands)) (t .number) (r .sheet)) e ∙ evidence-is R pass in
-          record {
-            refused = λ m. absurd (m (ap (λ (t : Told). t .number) (sym q)));
-            reviewed = λ _. R;
-            holds = λ _. holds R pass (subst (λ (τ : List ℕ). FilledBy τ room room′ n) is F);
-          }
+    pub evidenced : evidenceRoom (rows commands) ≤ length room → {r : Evidence} {relation′ generations′ room′ : List ℕ}
+        → Reviewed commands lengths σ relation generations (r .finding) relation′ generations′ × HoldsEvidence commands lengths σ room r room′
+        → Evidenced commands lengths σ relation generations room r relation′ generations′ room′
+    unfolding refusedShowing
+    evidenced l (R, W) =
+        let q : tell 0 0 0 ≡ all =
+        sym (rw (le-ltb (length room) (evidenceRoom (rows commands)) l)) ∙ or-second refusal (shortEvidence (rows commands) (length room)) pass in
+        record { refused = λ m. absurd (m (ap (λ (t : Told). t .number) (sym q))); reviewed = λ _. R; holds = λ _. W }

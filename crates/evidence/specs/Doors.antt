@@ -3,7 +3,7 @@ use mathlib.Core.Path.{_≡_}
 use mathlib.Core.Logic.{_≢_}
 use mathlib.Core.Bool.{cond}
 use mathlib.Core.List.{List, []}
-use Prim.Native.Nat.{ℕ, _+_, _*_, _<_}
+use Prim.Native.Nat.{ℕ, _+_, _*_, _≤_, _<_}
 use lib.Dec.{ltb}
 use lib.ListN.{length, getD, take, drop}
 use Rattle.tables.specs.Rows.{rows}
@@ -48,6 +48,11 @@ pub record HoldsEvidence (commands lengths schedule room : List ℕ) (r : Eviden
   pub count : number (r .finding) ≡ 11 → r .entries ≡ length (keptPairs (r .finding .sheet)) * rows commands * 2
   -- other verdicts write nothing
   pub nothing : number (r .finding) ≢ 10 → number (r .finding) ≢ 11 → (r .entries ≡ 0) × (room′ ≡ room)
+
+-- Tables and rooms pass.
+pub record Passes (commands lengths relation generations room : List ℕ) : Type 0 where
+  pub admitted : refused commands lengths (length relation) (length generations) .number ≡ 0
+  pub fits : evidenceRoom (rows commands) ≤ length room
 
 -- Nothing was done.
 pub record Untouched (relation generations room : List ℕ) (r : Evidence) (relation′ generations′ room′ : List ℕ) : Type 0 where

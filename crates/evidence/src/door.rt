@@ -5,12 +5,14 @@ ghost use Rattle.relation.specs.Table.{related};
 ghost use Rattle.replay.specs.Writer.{FilledBy};
 ghost use Rattle.evidence.specs.Evidence.{evidenceOf};
 ghost use Rattle.evidence.specs.Parts.{Showable};
-ghost use Rattle.evidence.specs.Doors.{Evidenced};
+ghost use Rattle.review.specs.Agreement.{Reviewed};
+ghost use Rattle.evidence.specs.Doors.{HoldsEvidence, Passes, Evidenced};
 use crate::writing::write_at;
 use crate::writing::write_races;
 use findings::Finding;
 use findings::bare;
 use review::review;
+use rooms::admits;
 use rooms::refuse;
 use sheet::Sheet;
 use sheet::kept;
@@ -68,7 +70,27 @@ fn show(
     0
 }
 
-// Any tables, any schedule, any rooms: the review, and the schedules that show verdicts 10 and 11. All rooms are tested before one is touched.
+// The review, and the schedules that show verdicts 10 and 11, of tables and rooms that pass.
+fn review_shown(
+    commands: &[u32],
+    lengths: &[u32],
+    schedule: &[u32],
+    relation: &mut [u32],
+    generations: &mut [u32],
+    room: &mut [u32],
+) -> Evidence
+    requires { ⌜ Passes (now commands) (now lengths) (now relation) (now generations) (now room) ⌝ }
+    ensures { λ r. ⌜ Reviewed (now (commands .entry)) (now (lengths .entry)) (now (schedule .entry)) (now (relation .entry)) (now (generations .entry)) (r .finding) (now (relation .exit)) (now (generations .exit)) × HoldsEvidence (now (commands .entry)) (now (lengths .entry)) (now (schedule .entry)) (now (room .entry)) r (now (room .exit)) ⌝ }
+{
+    let finding = review(commands, lengths, schedule, relation, generations);
+    let verdict = finding.verdict;
+    let sheet = finding.sheet;
+    let number = verdict.number().number;
+    let entries = show(commands, lengths, relation, number, sheet, room);
+    Evidence { finding, entries }
+}
+
+// Any tables, any schedule, any rooms. All rooms are tested before one is touched.
 pub fn review_evidence(
     commands: &[u32],
     lengths: &[u32],
@@ -79,23 +101,11 @@ pub fn review_evidence(
 ) -> Evidence
     ensures { λ r. ⌜ Evidenced (now (commands .entry)) (now (lengths .entry)) (now (schedule .entry)) (now (relation .entry)) (now (generations .entry)) (now (room .entry)) r (now (relation .exit)) (now (generations .exit)) (now (room .exit)) ⌝ }
 {
-    let refusal = refuse(commands, lengths, relation.len(), generations.len());
-    if refusal.number().number != 0 {
-        return nothing(bare(refusal));
+    if !admits(commands, lengths, relation.len(), generations.len()) {
+        return nothing(bare(refuse(commands, lengths, relation.len(), generations.len())));
     }
     if room.len() < Evidence::ROOM * (commands.len() / 3) {
         return nothing(bare(Verdict::ShortRoom(4)));
     }
-    let finding = review(commands, lengths, schedule, relation, generations);
-    let verdict = finding.verdict;
-    let sheet = finding.sheet;
-    let entries = show(
-        commands,
-        lengths,
-        relation,
-        verdict.number().number,
-        sheet,
-        room,
-    );
-    Evidence { finding, entries }
+    review_shown(commands, lengths, schedule, relation, generations, room)
 }
