@@ -45,7 +45,7 @@ use Rattle.desk.specs.declared.conclusion.Concluded.{Concluded}
 use Rattle.desk.specs.Conclusion.{toldOf, ofTables, readAs, ofText, bare}
 use Rattle.report.specs.Report.{report}
 use Rattle.desk.specs.Promise.{leastRoom}
-use Rattle.desk.specs.Rooms.{Holds, Concludes}
+use Rattle.desk.specs.Rooms.{FilledRooms, Concludes}
 use Rattle.desk.specs.Evidence.{leastEvidence, commandsOf, lengthsOf, offered, generationsOf, reachesOf, textExhibits, Against, BothOrders, TextEvidenced}
 use Rattle.desk.proofs.Tabled.{fault-fills}
 use Rattle.desk.proofs.Demands.{taken, read-told, tables-told}
@@ -181,7 +181,7 @@ module _ {text relation generations : List ℕ} {r : Concluded} {commands′ len
     G : Gives c l (offered text) k t
     G = text-gives text z low
 
-    H : Holds c l relation generations relation′ generations′
+    H : FilledRooms c l relation generations relation′ generations′
     H = C .holds z (omega (arith, ap (λ (k : Conclusion). k .told .number) (C .told)))
 
     same-numbers : (x : ℕ) → x < rows c → numberAt generations′ x ≡ generationsOf text x
@@ -245,8 +245,8 @@ module _ (text room : List ℕ) where
       }
 
 -- no other answer, and no other bytes
-pub evidence-one : {text room a b : List ℕ} {m n : ℕ} → TextEvidenced text room a m → TextEvidenced text room b n → (m ≡ n) × (a ≡ b)
-evidence-one {room = room} x y =
+pub text-evidence-one : {text room a b : List ℕ} {m n : ℕ} → TextEvidenced text room a m → TextEvidenced text room b n → (m ≡ n) × (a ≡ b)
+text-evidence-one {room = room} x y =
     by-cases (decLt (length room) leastEvidence)
     (λ (l : length room < leastEvidence).
     let (e, p) = x .refuses l in

@@ -29,7 +29,7 @@ use Rattle.review.proofs.Reviews.{no-fill}
 use Rattle.review.proofs.Bounds.{refused-checked}
 use Rattle.report.specs.declared.Conclusion.{Conclusion}
 use Rattle.desk.specs.Conclusion.{toldOf, pairsOf, ofTables, bare}
-use Rattle.desk.specs.Rooms.{Holds, JudgesTables}
+use Rattle.desk.specs.Rooms.{FilledRooms, JudgesTables}
 
 -- rooms of zeros are full ones
 pub full-numbers : length {A = ℕ} (replicate 1536 0) ≡ mostRows * 3
@@ -111,7 +111,7 @@ module _ {commands lengths σ relation room relation′ room′ : List ℕ} {f :
   pub judged-tables : (checked commands lengths .number ≡ 0 → σ ≡ schedule commands lengths) → JudgesTables commands lengths relation room told-as relation′ room′
   judged-tables s = record { told = concluded s; holds = λ l. by-cases (ℕ-discrete (checked commands lengths .number) 0) (filled-rooms l) (λ n. absurd (refused-low l n)) }
     where
-      filled-rooms : 10 ≤ t .number → checked commands lengths .number ≡ 0 → Holds commands lengths relation room relation′ room′
+      filled-rooms : 10 ≤ t .number → checked commands lengths .number ≡ 0 → FilledRooms commands lengths relation room relation′ room′
       filled-rooms l e =
           let q = s e in
           let n : t .number ≡ numbered (f .verdict) .number = ap (λ (u : Told). u .number) said in

@@ -24,7 +24,7 @@ use Rattle.sheet.specs.declared.Sheet.{Sheet}
 use Rattle.sheet.specs.Sheet.{sheetOf}
 use Rattle.report.specs.declared.Conclusion.{Conclusion}
 use Rattle.desk.specs.Conclusion.{ofTables, readAs, ofText, bare}
-use Rattle.desk.specs.Rooms.{Holds, JudgesTables, Concludes}
+use Rattle.desk.specs.Rooms.{FilledRooms, JudgesTables, Concludes}
 
 not-accepted : (r : Reading) → OneOf (0 ∷ 1 ∷ []) (Declared.tagOf R.the-type r) → answered r .told .number ≢ 0
 not-accepted (Unfit p) h = λ e. omega arith
@@ -102,6 +102,6 @@ module _ {text commands lengths commands′ lengths′ : List ℕ} {r : Reading}
           threads-fit = threads-fit;
           numbers = λ _. rows-read;
           threads = λ _. lengths-read;
-          holds = λ _ l. subst (λ (c : List ℕ). Holds c (threadLengths text) relation generations relation′ generations′) rows-read
-              (subst (λ (l : List ℕ). Holds (take (m * 3) commands′) l relation generations relation′ generations′) lengths-read (J .holds l));
+          holds = λ _ l. subst (λ (c : List ℕ). FilledRooms c (threadLengths text) relation generations relation′ generations′) rows-read
+              (subst (λ (l : List ℕ). FilledRooms (take (m * 3) commands′) l relation generations relation′ generations′) lengths-read (J .holds l));
         }

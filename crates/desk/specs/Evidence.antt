@@ -10,7 +10,7 @@ use Rattle.replay.specs.Writer.{schedule}
 use Rattle.sheet.specs.declared.Pair.{Pair}
 use Rattle.sheet.specs.Sheet.{pair, keptPairs, firstKept}
 use Rattle.review.specs.Judge.{generations, reaches}
-use Rattle.evidence.specs.Evidence.{Disputes, Orders, against, firstFirst, secondFirst}
+use Rattle.evidence.specs.Evidence.{Disputes, HasBefore, against, firstFirst, secondFirst}
 use Rattle.exhibits.specs.Shown.{shownBy, Says}
 use Rattle.exhibits.specs.Exhibits.{exhibits}
 use Rattle.desk.specs.Conclusion.{ofText}
@@ -48,8 +48,8 @@ module _ (text : List ℕ) where
 
   -- 11: of a pair, the two schedules that are printed have it in the orders that are said above them
   pub record BothOrders (p : Pair) : Type 0 where
-    pub x-first : Orders commandsOf lengthsOf (p .first) (p .second) (firstFirst commandsOf lengthsOf reachesOf p)
-    pub y-first : Orders commandsOf lengthsOf (p .second) (p .first) (secondFirst commandsOf lengthsOf reachesOf p)
+    pub x-first : HasBefore commandsOf lengthsOf (p .first) (p .second) (firstFirst commandsOf lengthsOf reachesOf p)
+    pub y-first : HasBefore commandsOf lengthsOf (p .second) (p .first) (secondFirst commandsOf lengthsOf reachesOf p)
 
 -- The contract of `review_text_evidence`: n is the answer, and the report room held `room` and then holds `room′`.
 pub record TextEvidenced (text room room′ : List ℕ) (n : ℕ) : Type 0 where

@@ -26,14 +26,14 @@ pub record FullRooms (relation generations : List ℕ) : Type 0 where
   pub high : length generations ≡ mostRows
 
 -- The rooms hold happens-before and the generations of the writer's schedule.
-pub record Holds (commands lengths relation generations relation′ generations′ : List ℕ) : Type 0 where
+pub record FilledRooms (commands lengths relation generations relation′ generations′ : List ℕ) : Type 0 where
   pub reached : Reached commands lengths (Rattle.review.specs.Judge.generations commands lengths (schedule commands lengths)) relation relation′
   pub numbers : generations′ ≡ put (played commands lengths (schedule commands lengths) .generations) (rows commands) generations
 
 -- two tables are judged; for 10 and 11 the rooms are filled
 pub record JudgesTables (commands lengths relation generations : List ℕ) (r : Conclusion) (relation′ generations′ : List ℕ) : Type 0 where
   pub told : r ≡ ofTables commands lengths
-  pub holds : 10 ≤ r .told .number → Holds commands lengths relation generations relation′ generations′
+  pub holds : 10 ≤ r .told .number → FilledRooms commands lengths relation generations relation′ generations′
 
 -- a text is judged; where it is read, its tables stand first in their rooms
 pub record Concludes (text relation generations : List ℕ) (r : Concluded) (commands′ lengths′ relation′ generations′ : List ℕ) : Type 0 where
@@ -42,4 +42,4 @@ pub record Concludes (text relation generations : List ℕ) (r : Concluded) (com
   pub threads-fit : r .threads ≤ length lengths′
   pub numbers : readAs text .number ≡ 0 → take (r .numbers) commands′ ≡ rowNumbers text
   pub threads : readAs text .number ≡ 0 → take (r .threads) lengths′ ≡ threadLengths text
-  pub holds : readAs text .number ≡ 0 → 10 ≤ r .conclusion .told .number → Holds (rowNumbers text) (threadLengths text) relation generations relation′ generations′
+  pub holds : readAs text .number ≡ 0 → 10 ≤ r .conclusion .told .number → FilledRooms (rowNumbers text) (threadLengths text) relation generations relation′ generations′

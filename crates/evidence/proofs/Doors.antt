@@ -25,7 +25,7 @@ use Rattle.rooms.proofs.Refusals.{admitted}
 use Rattle.review.specs.Judge.{reaches}
 use Rattle.review.specs.Agreement.{number, Reviewed}
 use Rattle.evidence.specs.declared.door.Evidence.{Evidence}
-use Rattle.evidence.specs.Evidence.{Disputes, Orders, against, bothWays, evidenceRoom, evidenceOf}
+use Rattle.evidence.specs.Evidence.{Disputes, HasBefore, against, bothWays, evidenceRoom, evidenceOf}
 use Rattle.evidence.specs.Doors.{shortEvidence, refusedShowing, scheduleAt, Opposes, HoldsEvidence, Evidenced}
 use Rattle.evidence.proofs.Shown.{shown-ten, shown-orders, shown-long, evidence-is}
 use Rattle.evidence.proofs.Slices.{both-long, x-at, y-at, nothing-of}
@@ -62,10 +62,10 @@ module _ {commands lengths σ relation generations : List ℕ} {f : Finding} {re
       let (a, b) = shown-orders R pass e k l in
       record {
         x-first =
-            subst (Orders commands lengths (p .first) (p .second))
+            subst (HasBefore commands lengths (p .first) (p .second))
             (sym (x-at commands lengths ρ (rows commands) (drop n room) ps (shown-long R pass e) k l) ∙ ap (scheduleAt (rows commands) (k * 2)) (sym is)) a;
         y-first =
-            subst (Orders commands lengths (p .second) (p .first))
+            subst (HasBefore commands lengths (p .second) (p .first))
             (sym (y-at commands lengths ρ (rows commands) (drop n room) ps (shown-long R pass e) k l) ∙ ap (scheduleAt (rows commands) (k * 2 + 1)) (sym is)) b;
       }
 

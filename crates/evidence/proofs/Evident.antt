@@ -31,7 +31,7 @@ use Rattle.replay.proofs.Precede.{precedes-from}
 use Rattle.replay.proofs.Agreements.{reuse-same, reaches-same}
 use Rattle.replay.proofs.Writing.{first-complete}
 use Rattle.schedules.specs.Shows.{Avoids}
-use Rattle.evidence.specs.Evidence.{Disputes, Orders}
+use Rattle.evidence.specs.Evidence.{Disputes, HasBefore}
 use Rattle.schedules.proofs.Showing.{shows-reuse, shows-first}
 use Rattle.replay.proofs.Steering.{Steered, steered-all}
 
@@ -117,7 +117,7 @@ module _ {table lengths : List ℕ} (K : Keeps table lengths) {σ : List ℕ} (C
     pub first-long : (c d : ℕ) → length (τ c d) ≡ rows table
     first-long c d = clean-long K {σ = τ c d} (clean-from K {σ = τ c d} (ends-clean c d))
 
-    pub first-in : (x y : ℕ) → x < rows table → y < rows table → x ≢ y → ¬ Reaches P g y x → Orders table lengths x y (τ y x)
+    pub first-in : (x y : ℕ) → x < rows table → y < rows table → x ≢ y → ¬ Reaches P g y x → HasBefore table lengths x y (τ y x)
     first-in x y lx ly ne far = record { complete = whole y x; precedes = by (steered y x) }
       where
         by : Steered K (apartFrom ρ y x) (reverse (τ y x)) → Precedes table lengths x y (τ y x)

@@ -18,7 +18,7 @@ use Rattle.sheet.specs.declared.Pair.{Pair}
 use Rattle.sheet.specs.Sheet.{pair}
 use Rattle.replay.specs.declared.writer.Written.{Written}
 use Rattle.replay.specs.Writer.{unwritten, apartFrom, pickedFirst, apartSchedule}
-use Rattle.replay.specs.Doors.{Writes}
+use Rattle.replay.specs.Doors.{WritesBy}
 use Rattle.replay.proofs.Places.{schedule-by-few}
 use Rattle.evidence.specs.Evidence.{bothWays, firstFirst, secondFirst}
 use Rattle.evidence.specs.Parts.{PutsAt, FitsAt, FitsAll}
@@ -40,7 +40,7 @@ pub apart-few : (commands lengths : List ℕ) (ρ : ℕ → ℕ → Bool) (c d :
 apart-few commands lengths ρ c d = schedule-by-few commands lengths (pickedFirst (apartFrom ρ c d) lengths)
 
 module _ {σ commands lengths room : List ℕ} {at : ℕ} (short : length σ ≤ rows commands) (F : FitsAt commands lengths room at)
-    {after : List ℕ} {w : Written} (W : Writes σ commands lengths (midOf at (length room - at) room) after w) where
+    {after : List ℕ} {w : Written} (W : WritesBy σ commands lengths (midOf at (length room - at) room) after w) where
   zero : numbered (w .verdict) .number ≡ 0
   unfolding unwritten
   zero =

@@ -26,7 +26,7 @@ use Rattle.order.proofs.Reaching.{related-reaches}
 use Rattle.rooms.proofs.Refusals.{Admitted, admitted}
 use Rattle.review.specs.Judge.{generations, reaches, verdictOf, fills}
 use Rattle.review.specs.Agreement.{number, Reviewed}
-use Rattle.evidence.specs.Evidence.{Disputes, Orders, against, firstFirst, secondFirst, evidenceOf}
+use Rattle.evidence.specs.Evidence.{Disputes, HasBefore, against, firstFirst, secondFirst, evidenceOf}
 use Rattle.evidence.specs.Parts.{Showable}
 use Rattle.evidence.specs.Evidence.{evidenceRoom}
 use Rattle.evidence.proofs.Verdicts.{Gives, ten-commands, ten-disputes, eleven-commands, eleven-orders, eleven-long}
@@ -66,8 +66,8 @@ module _ {commands lengths σ relation room : List ℕ} {r : Finding} {relation�
     p = getD (keptPairs (r .sheet)) k (pair 0 0)
 
     pub shown-orders :
-        Orders commands lengths (p .first) (p .second) (firstFirst commands lengths (reaches commands lengths σ) p)
-        × Orders commands lengths (p .second) (p .first) (secondFirst commands lengths (reaches commands lengths σ) p)
+        HasBefore commands lengths (p .first) (p .second) (firstFirst commands lengths (reaches commands lengths σ) p)
+        × HasBefore commands lengths (p .second) (p .first) (secondFirst commands lengths (reaches commands lengths σ) p)
     shown-orders = eleven-orders gives eleven k l
 
     pub shown-long :

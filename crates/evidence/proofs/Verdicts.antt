@@ -35,7 +35,7 @@ use Rattle.replay.proofs.Refusals.{or-first, or-second}
 use Rattle.review.specs.Judge.{generations, reaches}
 use Rattle.review.specs.Agreement.{number}
 use Rattle.review.proofs.Judging.{settled}
-use Rattle.evidence.specs.Evidence.{Disputes, Orders, against, firstFirst, secondFirst}
+use Rattle.evidence.specs.Evidence.{Disputes, HasBefore, against, firstFirst, secondFirst}
 use Rattle.evidence.proofs.Evident.{disputes, first-in, first-long}
 use Rattle.evidence.proofs.Slices.{AreCommands}
 
@@ -147,8 +147,8 @@ module _ {commands lengths σ : List ℕ} {n : ℕ} {s : Sheet} (G : Gives comma
 
       -- two schedules of M entries each, in opposite orders
       pub eleven-orders :
-          Orders commands lengths (p .first) (p .second) (firstFirst commands lengths (reaches commands lengths σ) p)
-          × Orders commands lengths (p .second) (p .first) (secondFirst commands lengths (reaches commands lengths σ) p)
+          HasBefore commands lengths (p .first) (p .second) (firstFirst commands lengths (reaches commands lengths σ) p)
+          × HasBefore commands lengths (p .second) (p .first) (secondFirst commands lengths (reaches commands lengths σ) p)
       eleven-orders =
           let (x, y, lx, ly, t, e) = raced in
           let (less, _, _, a, b) = race-is commands lengths g x y lx ly .0 t in

@@ -17,7 +17,7 @@ use Rattle.rooms.specs.Refusals.{refused}
 use Rattle.review.specs.Judge.{reaches}
 use Rattle.review.specs.Agreement.{number, Reviewed}
 use Rattle.evidence.specs.declared.door.Evidence.{Evidence}
-use Rattle.evidence.specs.Evidence.{Disputes, Orders, evidenceRoom, evidenceOf}
+use Rattle.evidence.specs.Evidence.{Disputes, HasBefore, evidenceRoom, evidenceOf}
 
 -- 4: evidence room short (4)
 abbrev pub shortEvidence : ℕ → ℕ → Told
@@ -33,8 +33,8 @@ scheduleAt m i room = take m (drop (i * m) room)
 
 -- The k-th pair's two schedules, x first before y first.
 pub record Opposes (commands lengths room : List ℕ) (k : ℕ) (p : Pair) : Type 0 where
-  pub x-first : Orders commands lengths (p .first) (p .second) (scheduleAt (rows commands) (k * 2) room)
-  pub y-first : Orders commands lengths (p .second) (p .first) (scheduleAt (rows commands) (k * 2 + 1) room)
+  pub x-first : HasBefore commands lengths (p .first) (p .second) (scheduleAt (rows commands) (k * 2) room)
+  pub y-first : HasBefore commands lengths (p .second) (p .first) (scheduleAt (rows commands) (k * 2 + 1) room)
 
 -- What stands in the evidence room, of tables and rooms that pass.
 pub record HoldsEvidence (commands lengths schedule room : List ℕ) (r : Evidence) (room′ : List ℕ) : Type 0 where

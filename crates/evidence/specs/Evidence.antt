@@ -23,7 +23,7 @@ module _ (commands lengths : List ℕ) where
         ⊎ ((c : ℕ) × (c < rows commands) × (generation (played commands lengths τ) c ≢ generation (played commands lengths σ) c))
 
   -- Half of the evidence for a race: a legal, complete schedule with x before y.
-  pub record Orders (x y : ℕ) (τ : List ℕ) : Type 0 where
+  pub record HasBefore (x y : ℕ) (τ : List ℕ) : Type 0 where
     pub complete : Complete commands lengths τ
     pub precedes : Precedes commands lengths x y τ
 

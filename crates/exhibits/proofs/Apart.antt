@@ -15,7 +15,7 @@ use Rattle.printing.specs.Putting.{PutsBytes}
 use Rattle.printing.proofs.Placing.{puts-on}
 use Rattle.replay.specs.declared.writer.Written.{Written}
 use Rattle.replay.specs.Writer.{unwritten, FilledBy, Fits}
-use Rattle.replay.specs.Doors.{Writes}
+use Rattle.replay.specs.Doors.{WritesBy}
 use Rattle.exhibits.specs.declared.shown.Shown.{Shown}
 use Rattle.exhibits.specs.Shown.{shownBy}
 use Rattle.exhibits.specs.Lines.{shownLine, stepsLine}
@@ -27,7 +27,7 @@ unfolding mostRows
 full-room K = record { keeps = K; fits = omega (arith, K .few-rows, length-replicate {A = ℕ} 512 0) }
 
 -- where there is place, it is written
-pub fills : {σ commands lengths room after : List ℕ} {w : Written} → Fits commands lengths room → Writes σ commands lengths room after w → FilledBy σ room after (w .length)
+pub fills : {σ commands lengths room after : List ℕ} {w : Written} → Fits commands lengths room → WritesBy σ commands lengths room after w → FilledBy σ room after (w .length)
 unfolding unwritten
 fills {commands = commands} {lengths = lengths} {room = room} F W =
     W .wrote

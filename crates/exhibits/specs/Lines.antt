@@ -4,15 +4,10 @@ use mathlib.Core.List.{List, [], _∷_, _++_}
 use Prim.Native.Nat.{ℕ}
 use lib.Dec.{eqb}
 use lib.ListN.{length}
+use Rattle.printing.specs.Marks.{space, newline}
 use Rattle.printing.specs.Figures.{figures}
 use Rattle.exhibits.specs.declared.shown.Shown.{Shown}
 use Rattle.exhibits.specs.declared.shown.Shown.the-variants.{First, Generation, Mismatch, Deadlock, LeftSet}
-
-abbrev pub space : ℕ
-space = 32
-
-abbrev pub newline : ℕ
-newline = 10
 
 abbrev pub lineEnd : List ℕ
 lineEnd = newline ∷ []

@@ -1,3 +1,4 @@
--- Read in this order: Figures (numbers in decimal); Putting (bytes put into a room).
+-- Read in this order: Marks (a space, a newline); Figures (numbers in decimal); Putting (bytes put into a room).
+pub mod Marks
 pub mod Figures
 pub mod Putting

@@ -10,13 +10,13 @@ use Rattle.tables.specs.declared.verdict.Verdict.{Verdict}
 use Rattle.tables.proofs.Verdicts.{numbered-one}
 use Rattle.replay.specs.declared.offered.Judged.{Judged}
 use Rattle.replay.specs.declared.writer.Written.{Written}
-use Rattle.replay.specs.Doors.{Replays, Writes}
+use Rattle.replay.specs.Doors.{Replays, WritesBy}
 
 pub judge-one : (commands lengths σ : List ℕ) (a b : Judged) → Replays commands lengths σ a → Replays commands lengths σ b → a ≡ b
 judge-one commands lengths σ a b A B =
     ap₂ (λ (v : Verdict) (g : List ℕ). record { verdict = v; generations = g }) (numbered-one _ _ (A .verdict ∙ sym (B .verdict))) (A .generations ∙ sym (B .generations))
 
-module _ (σ commands lengths room : List ℕ) (a b : Written) {ra rb : List ℕ} (A : Writes σ commands lengths room ra a) (B : Writes σ commands lengths room rb b) where
+module _ (σ commands lengths room : List ℕ) (a b : Written) {ra rb : List ℕ} (A : WritesBy σ commands lengths room ra a) (B : WritesBy σ commands lengths room rb b) where
   one-verdict : a .verdict ≡ b .verdict
   one-verdict = numbered-one _ _ (A .verdict ∙ sym (B .verdict))
 

@@ -18,7 +18,7 @@ use Rattle.relation.specs.Table.{words, inside, related}
 use Rattle.relation.proofs.Truth.{clashing, both, isnt}
 use Rattle.replay.specs.declared.writer.Written.{Written}
 use Rattle.replay.specs.Writer.{schedule, firstSchedule, goesFirst, apartFrom, PutsApart, FilledBy}
-use Rattle.replay.specs.Doors.{Writes, WritesSchedule, WritesApart}
+use Rattle.replay.specs.Doors.{WritesBy, WritesSchedule, WritesApart}
 use Rattle.replay.specs.Schedules.{Complete}
 use Rattle.replay.proofs.Refusals.{unwritten-keeps}
 use Rattle.replay.proofs.Picking.{picks-lowest, nothing-first, schedule-alike, first-alike}
@@ -42,7 +42,7 @@ few-apart relation m c d x l {a} e =
 
 module _ {commands lengths before after : List ℕ} {r : Written} where
   -- schedules that are the same for tables that pass
-  same : (σ τ : List ℕ) → (Keeps commands lengths → σ ≡ τ) → Writes σ commands lengths before after r → Writes τ commands lengths before after r
+  same : (σ τ : List ℕ) → (Keeps commands lengths → σ ≡ τ) → WritesBy σ commands lengths before after r → WritesBy τ commands lengths before after r
   same σ τ e W =
       record {
         verdict = W .verdict;
@@ -54,12 +54,12 @@ module _ {commands lengths before after : List ℕ} {r : Written} where
       is : numbered (r .verdict) .number ≡ 0 → σ ≡ τ
       is z = e (unwritten-keeps commands lengths (length before) (ap (λ (t : Told). t .number) (sym (W .verdict)) ∙ z))
 
-  pub wrote-lowest : Writes (firstSchedule [] commands lengths) commands lengths before after r → WritesSchedule commands lengths before after r
+  pub wrote-lowest : WritesBy (firstSchedule [] commands lengths) commands lengths before after r → WritesSchedule commands lengths before after r
   unfolding schedule
   wrote-lowest = same _ _ (λ _. sym (schedule-alike (λ s. picks-lowest (goesFirst []) lengths s (nothing-first [] refl)) commands lengths))
 
   pub wrote-apart : (relation : List ℕ) (c d : ℕ) {m a : ℕ} {early early′ : List Bool} → m ≡ min (rows commands) mostRows → a ≡ min c mostRows → length early ≡ mostRows
-      → PutsApart (related relation m) a d early early′ → Writes (firstSchedule early′ commands lengths) commands lengths before after r
+      → PutsApart (related relation m) a d early early′ → WritesBy (firstSchedule early′ commands lengths) commands lengths before after r
       → WritesApart commands lengths relation c d before after r
   wrote-apart relation c d {m} {a} {early} {early′} e f l A =
       same _ _ (λ K.

@@ -24,14 +24,14 @@ pub record Replays (commands lengths schedule : List ℕ) (r : Judged) : Type 0 
   pub generations : r .generations ≡ cond (eqb (checked commands lengths .number) 0) (played commands lengths schedule .generations) (replicate mostRows 0)
 
 -- A schedule writer: 1 to 4 and the room as it was, or the schedule, which is legal and complete, and its length.
-pub record Writes (σ commands lengths before after : List ℕ) (r : Written) : Type 0 where
+pub record WritesBy (σ commands lengths before after : List ℕ) (r : Written) : Type 0 where
   pub verdict : numbered (r .verdict) ≡ unwritten commands lengths (length before)
   pub refused : (numbered (r .verdict) .number ≡ 0 → ⊥) → (r .length ≡ 0) × (after ≡ before)
   pub wrote : numbered (r .verdict) .number ≡ 0 → FilledBy σ before after (r .length)
   pub complete : numbered (r .verdict) .number ≡ 0 → Complete commands lengths σ
 
 abbrev pub WritesSchedule : List ℕ → List ℕ → List ℕ → List ℕ → Written → Type 0
-WritesSchedule commands lengths = Writes (schedule commands lengths) commands lengths
+WritesSchedule commands lengths = WritesBy (schedule commands lengths) commands lengths
 
 abbrev pub WritesApart : List ℕ → List ℕ → List ℕ → (c d : ℕ) → List ℕ → List ℕ → Written → Type 0
-WritesApart commands lengths relation c d = Writes (apartSchedule commands lengths (related relation (rows commands)) c d) commands lengths
+WritesApart commands lengths relation c d = WritesBy (apartSchedule commands lengths (related relation (rows commands)) c d) commands lengths

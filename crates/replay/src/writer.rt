@@ -5,7 +5,7 @@ ghost use lib.ListN.{length};
 ghost use Rattle.tables.specs.Limits.{mostRows};
 ghost use Rattle.relation.specs.Table.{related};
 ghost use Rattle.replay.specs.Writer.{goesOn, firstSchedule, Fits, FilledBy, PutsApart};
-ghost use Rattle.replay.specs.Doors.{Writes, WritesSchedule, WritesApart};
+ghost use Rattle.replay.specs.Doors.{WritesBy, WritesSchedule, WritesApart};
 use crate::state::Replay;
 use crate::step::Did;
 use crate::step::How;
@@ -60,7 +60,7 @@ fn write(commands: &[u32], lengths: &[u32], early: &[bool], room: &mut [u32]) ->
 
 // The same for any tables and any room: refusals 1 to 4 come first.
 fn write_first(commands: &[u32], lengths: &[u32], early: &[bool], room: &mut [u32]) -> Written
-    ensures { λ r. ⌜ Writes (firstSchedule (now (early .entry)) (now (commands .entry)) (now (lengths .entry))) (now (commands .entry)) (now (lengths .entry)) (now (room .entry)) (now (room .exit)) r ⌝ }
+    ensures { λ r. ⌜ WritesBy (firstSchedule (now (early .entry)) (now (commands .entry)) (now (lengths .entry))) (now (commands .entry)) (now (lengths .entry)) (now (room .entry)) (now (room .exit)) r ⌝ }
 {
     let verdict = check_tables(commands, lengths);
     if verdict.number().number != 0 {

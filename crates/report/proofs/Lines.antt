@@ -11,7 +11,8 @@ use Rattle.sheet.specs.declared.Pair.{Pair}
 use Rattle.report.specs.declared.Conclusion.{Conclusion}
 use Rattle.printing.specs.Figures.{figures}
 use Rattle.sheet.specs.Sheet.{keptPairs}
-use Rattle.report.specs.Report.{space, newline, verdictWord, placeWord, totalWord, twoNumbers, verdictLine, totalLine, pairLines, report}
+use Rattle.printing.specs.Marks.{space, newline}
+use Rattle.report.specs.Report.{verdictWord, placeWord, totalWord, twoNumbers, verdictLine, totalLine, pairLines, report}
 
 -- ---- lengths
 

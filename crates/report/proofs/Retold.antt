@@ -10,7 +10,8 @@ use Rattle.sheet.specs.declared.Pair.{Pair}
 use Rattle.sheet.specs.Sheet.{mostKept, pair, firsts, sheetOf}
 use Rattle.sheet.proofs.Sheets.{kept-are}
 use Rattle.printing.specs.Figures.{figures}
-use Rattle.report.specs.Report.{space, newline, verdictWord, placeWord, totalWord, twoNumbers, verdictLine, totalLine, pairLines, report}
+use Rattle.printing.specs.Marks.{space, newline}
+use Rattle.report.specs.Report.{verdictWord, placeWord, totalWord, twoNumbers, verdictLine, totalLine, pairLines, report}
 use Rattle.report.specs.Again.{ToldAgain}
 use Rattle.printing.proofs.Numerals.{Digit, figures-apart}
 

@@ -5,13 +5,8 @@ use Rattle.tables.specs.declared.verdict.Told.{Told}
 use Rattle.sheet.specs.declared.Pair.{Pair}
 use Rattle.sheet.specs.Sheet.{keptPairs}
 use Rattle.report.specs.declared.Conclusion.{Conclusion}
+use Rattle.printing.specs.Marks.{space, newline}
 use Rattle.printing.specs.Figures.{figures}
-
-abbrev pub space : ℕ
-space = 32
-
-abbrev pub newline : ℕ
-newline = 10
 
 -- `verdict `, ` place ` and `total `
 abbrev pub verdictWord : List ℕ
