@@ -48,7 +48,7 @@ use Rattle.desk.specs.Promise.{leastRoom}
 use Rattle.desk.specs.Rooms.{FilledRooms, Concludes}
 use Rattle.desk.specs.Evidence.{leastEvidence, commandsOf, lengthsOf, offered, generationsOf, reachesOf, textExhibits, Against, BothOrders, TextEvidenced}
 use Rattle.desk.proofs.Tabled.{fault-fills}
-use Rattle.desk.proofs.Demands.{taken, read-told, tables-told}
+use Rattle.desk.proofs.Demands.{taken, read-told, tables-told, text-judged, text-possible}
 use Rattle.desk.proofs.Reports.{text-short, longest-fits}
 
 -- ---- two tables that are told 10 or 11 by the writer's schedule
@@ -228,6 +228,8 @@ module _ {text relation generations : List ℕ} {r : Concluded} {commands′ len
         answers = λ _. ap (λ (k : Conclusion). k .told .number) (C .told);
         prints = λ _. puts-over (puts-on (rw (C .told) at p) (rw exhibits-are at q)) (omega (arith, all-fits text));
         fits = all-fits text;
+        possible = text-possible text;
+        demand₃ = λ _. rw (ap (λ (k : Conclusion). k .told .number) (C .told)) (text-judged text);
         reuse = ten-so text;
         races = eleven-so text;
       }
@@ -240,6 +242,8 @@ module _ (text room : List ℕ) where
         answers = λ g. absurd (omega arith);
         prints = λ g. absurd (omega arith);
         fits = all-fits text;
+        possible = text-possible text;
+        demand₃ = λ g. absurd (omega arith);
         reuse = ten-so text;
         races = eleven-so text;
       }

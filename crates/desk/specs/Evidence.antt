@@ -14,6 +14,7 @@ use Rattle.evidence.specs.Evidence.{Disputes, HasBefore, against, firstFirst, s
 use Rattle.exhibits.specs.Shown.{shownBy, Says}
 use Rattle.exhibits.specs.Exhibits.{exhibits}
 use Rattle.desk.specs.Conclusion.{ofText}
+use Rattle.desk.specs.Promise.{JudgesText, Possible}
 use Rattle.report.specs.Report.{report}
 
 -- a report room for evidence has at least so many bytes: 192 for the report, and 1,600 for each of 32 schedules with the line above it
@@ -60,5 +61,7 @@ pub record TextEvidenced (text room room′ : List ℕ) (n : ℕ) : Type 0 where
   pub prints : leastEvidence ≤ length room → room′ ≡ over (report (ofText text) ++ textExhibits text) room
   -- they always have room
   pub fits : length (report (ofText text) ++ textExhibits text) ≤ leastEvidence
+  pub possible : Possible text (ofText text .told)
+  pub demand₃ : leastEvidence ≤ length room → JudgesText text n
   pub reuse : ofText text .told .number ≡ 10 → Against text
   pub races : ofText text .told .number ≡ 11 → (k : ℕ) → k < length (keptPairs (ofText text .sheet)) → BothOrders text (getD (keptPairs (ofText text .sheet)) k (pair 0 0))

@@ -50,7 +50,7 @@ pub record HoldsEvidence (commands lengths schedule room : List ℕ) (r : Eviden
   pub nothing : number (r .finding) ≢ 10 → number (r .finding) ≢ 11 → (r .entries ≡ 0) × (room′ ≡ room)
 
 -- Tables and rooms pass.
-pub record Passes (commands lengths relation generations room : List ℕ) : Type 0 where
+pub record Admissible (commands lengths relation generations room : List ℕ) : Type 0 where
   pub admitted : refused commands lengths (length relation) (length generations) .number ≡ 0
   pub fits : evidenceRoom (rows commands) ≤ length room
 

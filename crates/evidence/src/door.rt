@@ -6,7 +6,7 @@ ghost use Rattle.replay.specs.Writer.{FilledBy};
 ghost use Rattle.evidence.specs.Evidence.{evidenceOf};
 ghost use Rattle.evidence.specs.Parts.{Showable};
 ghost use Rattle.review.specs.Agreement.{Reviewed};
-ghost use Rattle.evidence.specs.Doors.{HoldsEvidence, Passes, Evidenced};
+ghost use Rattle.evidence.specs.Doors.{HoldsEvidence, Admissible, Evidenced};
 use crate::writing::write_at;
 use crate::writing::write_races;
 use findings::Finding;
@@ -79,7 +79,7 @@ fn review_shown(
     generations: &mut [u32],
     room: &mut [u32],
 ) -> Evidence
-    requires { ⌜ Passes (now commands) (now lengths) (now relation) (now generations) (now room) ⌝ }
+    requires { ⌜ Admissible (now commands) (now lengths) (now relation) (now generations) (now room) ⌝ }
     ensures { λ r. ⌜ Reviewed (now (commands .entry)) (now (lengths .entry)) (now (schedule .entry)) (now (relation .entry)) (now (generations .entry)) (r .finding) (now (relation .exit)) (now (generations .exit)) × HoldsEvidence (now (commands .entry)) (now (lengths .entry)) (now (schedule .entry)) (now (room .entry)) r (now (room .exit)) ⌝ }
 {
     let finding = review(commands, lengths, schedule, relation, generations);

@@ -34,7 +34,7 @@ fn fill_apart(
 }
 
 // Of a race, x first.
-fn put_order(
+fn put_way(
     commands: &[u32],
     lengths: &[u32],
     relation: &[u32],
@@ -92,8 +92,8 @@ fn put_races(
         let pair = sheet.pairs[k];
         let x = pair.first;
         let y = pair.second;
-        let half = put_order(commands, lengths, relation, x, y, room, next);
-        next = put_order(commands, lengths, relation, y, x, room, half);
+        let half = put_way(commands, lengths, relation, x, y, room, next);
+        next = put_way(commands, lengths, relation, y, x, room, half);
         k += 1;
     }
     next

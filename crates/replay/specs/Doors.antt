@@ -1,4 +1,4 @@
--- What the two doors promise: the judge of a schedule, and the schedule writer.
+-- What the doors promise: the judge of a schedule, and the two schedule writers.
 use mathlib.Core.Path.{_≡_}
 use mathlib.Core.Bool.{cond}
 use mathlib.Core.List.{List}

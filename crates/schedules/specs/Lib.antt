@@ -1,4 +1,5 @@
--- Read in this order: Tally (counting), Machine (one step of the barriers), Threads (schedules), Order (happens-before, reuse), Claims (what is proved).
+-- Read in this order: Tally (counting), Machine (one step of the barriers), Threads (schedules), Order (happens-before, reuse), Claims (what is proved), Shows (which schedules show a
+-- fault).
 pub mod Tally
 pub mod Machine
 pub mod Threads

@@ -14,11 +14,11 @@ use Rattle.sheet.specs.Sheet.{mostKept, mostCounted, firsts, sheetOf, ke
 
 -- ---- one pair more
 
-kept-one : (n : ℕ) (ps : List Pair) (p : Pair) → length ps < n → set (firsts n ps) (length ps) p ≡ firsts n (ps ++ p ∷ [])
+kept-more : (n : ℕ) (ps : List Pair) (p : Pair) → length ps < n → set (firsts n ps) (length ps) p ≡ firsts n (ps ++ p ∷ [])
 unfolding firsts
-kept-one zero ps p h = absurd (omega arith)
-kept-one (suc n) [] p h = refl
-kept-one (suc n) (q ∷ ps) p h = ap (λ (l : List Pair). q ∷ l) (kept-one n ps p (omega arith))
+kept-more zero ps p h = absurd (omega arith)
+kept-more (suc n) [] p h = refl
+kept-more (suc n) (q ∷ ps) p h = ap (λ (l : List Pair). q ∷ l) (kept-more n ps p (omega arith))
 
 full : (n : ℕ) (ps qs : List Pair) → n ≤ length ps → firsts n ps ≡ firsts n (ps ++ qs)
 unfolding firsts
@@ -30,7 +30,7 @@ added-sheet : (ps : List Pair) (p : Pair) → length ps < mostCounted → added 
 unfolding added sheetOf
 added-sheet ps p l =
     ap₂ (λ (l : List Pair) (n : ℕ). record { pairs = l; total = n })
-    (by-cases (decLt (length ps) mostKept) (λ (h : length ps < mostKept). rw (lt-ltb _ _ h) (kept-one mostKept ps p h))
+    (by-cases (decLt (length ps) mostKept) (λ (h : length ps < mostKept). rw (lt-ltb _ _ h) (kept-more mostKept ps p h))
     (λ (h : ¬ (length ps < mostKept)). rw (le-ltb (length ps) mostKept (omega arith)) (full mostKept ps (p ∷ []) (omega arith))))
     (omega (arith, length-append ps (p ∷ [])))
 

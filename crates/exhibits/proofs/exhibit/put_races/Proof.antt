@@ -34,7 +34,7 @@ loop-again c =
     let a = b .before .before .before .before in
     let t = a .before .before .before in
     let l = t .before .loop in (
-      along-more (l .inv .0) (races-next _ _ _ _ _ (l .k) (omega (arith, l .inv .2, l .inv .3)) (t .loop-test .taken)) (puts-on (a .put-order .ensures) (b .put-order2 .ensures)),
+      along-more (l .inv .0) (races-next _ _ _ _ _ (l .k) (omega (arith, l .inv .2, l .inv .3)) (t .loop-test .taken)) (puts-on (a .put-way .ensures) (b .put-way2 .ensures)),
       omega (arith, t .loop-test .taken),
       l .inv .2,
       l .inv .3,

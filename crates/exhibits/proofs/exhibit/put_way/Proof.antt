@@ -1,9 +1,9 @@
--- `put_order` meets its contract: the line, and the schedule from the front of its room. Assumes nothing.
+-- `put_way` meets its contract: the line, and the schedule from the front of its room. Assumes nothing.
 use borrow.Author.Needs.{needs}
 use Rattle.exhibits.specs.Exhibits.{orderExhibit}
 use Rattle.exhibits.proofs.Apart.{full-room, front-fits, front-long, puts-below}
-use Rattle.exhibits.proofs.exhibit.put_order.Statement.{statement}
-use Rattle.exhibits.proofs.exhibit.put_order.Tie as tie
+use Rattle.exhibits.proofs.exhibit.put_way.Statement.{statement}
+use Rattle.exhibits.proofs.exhibit.put_way.Tie as tie
 
 fill-apart-requires : tie.Need-fill-apart-requires
 fill-apart-requires c κs = full-room (c .before .before .before .before .before .pre)
@@ -21,8 +21,8 @@ returns c =
     let s = p .before .before .before .before .before in
     puts-below (s .before .before .before .fill-apart .ensures) (s .put-shown .ensures) (p .put-steps .ensures)
 
-pub put-order-spec : {M : Type 1} → statement M
-put-order-spec =
+pub put-way-spec : {M : Type 1} → statement M
+put-way-spec =
     tie.close
     (tie.spec
     (λ c. search needs)
