@@ -20,7 +20,6 @@ use Rattle.replay.specs.Ending.{judged}
 use Rattle.replay.specs.Replay.{played, generation}
 use Rattle.replay.specs.Writer.{apartSchedule}
 use Rattle.replay.proofs.Picking.{lowest-alike, apart-alike}
-use Rattle.evidence.proofs.Slices.{AreCommands}
 use Rattle.exhibits.specs.declared.shown.Shown.{Shown}
 use Rattle.exhibits.specs.declared.shown.Shown.the-variants.{First}
 use Rattle.exhibits.specs.Shown.{differs, generationOf, otherGeneration, shownAs, shownBy}
@@ -29,10 +28,14 @@ use Rattle.exhibits.proofs.Doors.{exhibits-ten, exhibits-eleven, exhibi
 
 -- ---- what is asked of the pairs
 
+-- both numbers of a pair are commands
+abbrev pub BothCommands : List ℕ → Pair → Type 0
+BothCommands commands p = (p .first < rows commands) × (p .second < rows commands)
+
 -- the pairs that a verdict's exhibits are of are commands
 pub record Named (commands : List ℕ) (n : ℕ) (s : Sheet) : Type 0 where
-  pub reuse : n ≡ 10 → AreCommands commands (firstKept s)
-  pub races : n ≡ 11 → (k : ℕ) → k < length (keptPairs s) → AreCommands commands (getD (keptPairs s) k (pair 0 0))
+  pub reuse : n ≡ 10 → BothCommands commands (firstKept s)
+  pub races : n ≡ 11 → (k : ℕ) → k < length (keptPairs s) → BothCommands commands (getD (keptPairs s) k (pair 0 0))
 
 -- ---- what is shown
 
@@ -66,7 +69,7 @@ module _ {commands lengths : List ℕ} (K : Keeps commands lengths) (g g′ : �
   unfolding orderExhibit
   order-alike x y l = ap (exhibit (First x y)) (apart y x l)
 
-  races-alike : (ps : List Pair) → ((k : ℕ) → k < length ps → AreCommands commands (getD ps k (pair 0 0))) → raceExhibits commands lengths ρ ps ≡ raceExhibits commands lengths ρ′ ps
+  races-alike : (ps : List Pair) → ((k : ℕ) → k < length ps → BothCommands commands (getD ps k (pair 0 0))) → raceExhibits commands lengths ρ ps ≡ raceExhibits commands lengths ρ′ ps
   unfolding raceExhibits
   races-alike [] h = refl
   races-alike (p ∷ ps) h =

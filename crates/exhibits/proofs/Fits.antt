@@ -33,8 +33,7 @@ use Rattle.exhibits.specs.Shown.{differs, otherGeneration, shownAs, show
 use Rattle.exhibits.specs.Lines.{commandWord, firstWord, getsWord, notWord, clashWord, deadlockWord, barrierWord, moreWord, lineEnd, shownLine, partedBy, stepsLine}
 use Rattle.exhibits.specs.Exhibits.{reuseExhibit, orderExhibit, raceExhibits, exhibits}
 use Rattle.exhibits.proofs.Doors.{exhibits-ten, exhibits-eleven, exhibits-none}
-use Rattle.evidence.proofs.Slices.{AreCommands}
-use Rattle.exhibits.proofs.Alike.{Named}
+use Rattle.exhibits.proofs.Alike.{BothCommands, Named}
 
 -- ---- a line in words has at most 64 bytes
 
@@ -169,7 +168,7 @@ module _ {commands lengths : List ℕ} (K : Keeps commands lengths) where
 
   -- ---- thirty-two exhibits at most
 
-  races-short : (ρ : ℕ → ℕ → Bool) (ps : List Pair) → ((k : ℕ) → k < length ps → AreCommands commands (getD ps k (pair 0 0)))
+  races-short : (ρ : ℕ → ℕ → Bool) (ps : List Pair) → ((k : ℕ) → k < length ps → BothCommands commands (getD ps k (pair 0 0)))
       → length (raceExhibits commands lengths ρ ps) ≤ length ps * 3200
   unfolding raceExhibits
   races-short ρ [] h = omega arith

@@ -12,7 +12,6 @@ use Rattle.sheet.specs.Sheet.{keptPairs, firstKept}
 use Rattle.rooms.specs.Refusals.{refused}
 use Rattle.rooms.specs.Rooms.{numberAt}
 use Rattle.replay.specs.Writer.{apartSchedule}
-use Rattle.evidence.specs.Evidence.{against}
 use Rattle.exhibits.specs.declared.shown.Shown.{Shown}
 use Rattle.exhibits.specs.declared.shown.Shown.the-variants.{First}
 use Rattle.exhibits.specs.Shown.{shownBy}
@@ -24,9 +23,13 @@ exhibit s τ = shownLine s ++ stepsLine τ
 
 -- over what reaches what
 module _ (commands lengths : List ℕ) (ρ : ℕ → ℕ → Bool) where
+  -- the schedule of a pair, in which the first waits as long as it can
+  abbrev pub pairSchedule : Pair → List ℕ
+  pairSchedule p = apartSchedule commands lengths ρ (p .first) (p .second)
+
   -- of a reuse fault, and what its schedule shows against the generations g
   unfoldable pub reuseExhibit : (ℕ → ℕ) → Pair → List ℕ
-  reuseExhibit g p = exhibit (shownBy commands lengths g (against commands lengths ρ p)) (against commands lengths ρ p)
+  reuseExhibit g p = exhibit (shownBy commands lengths g (pairSchedule p)) (pairSchedule p)
 
   -- of a race, x first: y waits as long as it can
   unfoldable pub orderExhibit : (x y : ℕ) → List ℕ
