@@ -5,6 +5,7 @@ ghost use lib.ListN.{length};
 ghost use Rattle.tables.specs.Limits.{mostThreads};
 ghost use Rattle.replay.specs.Writer.{goesFirst, lowestPicked, pickedFirst};
 use crate::state::Replay;
+use crate::step::may_step;
 
 // Does command x go first? A list that is too short says no.
 fn goes_first(early: &[bool], x: usize) -> bool
@@ -25,11 +26,13 @@ impl Replay {
         let mut row = 0;
         let mut t = 0;
         while t < lengths.len() {
-            let c = row + self.next[t] as usize;
-            if self.allows(lengths, t) & goes_first(early, c) {
+            let next = self.next[t];
+            let length = lengths[t];
+            let first = goes_first(early, row + next as usize);
+            if may_step(next, length, self.waits[t]) & first {
                 return t;
             }
-            row += lengths[t] as usize;
+            row += length as usize;
             t += 1;
         }
         t

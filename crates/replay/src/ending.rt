@@ -10,6 +10,7 @@ ghost use Rattle.replay.specs.Step.{allowed};
 ghost use Rattle.replay.specs.Ending.{isBlocked, barrierSet, ended, Ends};
 use crate::barrier::Phase;
 use crate::state::Replay;
+use crate::step::may_step;
 use tables::Table;
 use tables::Verdict;
 use tables::first_row;
@@ -31,7 +32,7 @@ impl Replay {
     {
         let mut t = 0;
         while t < lengths.len() {
-            if self.allows(lengths, t) {
+            if may_step(self.next[t], lengths[t], self.waits[t]) {
                 return t;
             }
             t += 1;

@@ -1,6 +1,8 @@
 // One step: it runs the next command of one thread.
 ghost use mathlib.Core.Path.{_≡_};
+ghost use mathlib.Core.Bool.{_&&_};
 ghost use Prim.Native.Nat.{_≤_};
+ghost use lib.Dec.{eqb, ltb};
 ghost use lib.ListN.{length};
 ghost use Rattle.tables.specs.Limits.{mostThreads};
 ghost use Rattle.tables.specs.Rules.{Keeps};
@@ -36,6 +38,13 @@ fn ran(after: Replay, c: usize, generation: u32) -> Stepped
     }
 }
 
+// Has a thread a command left, and isn't it blocked? A scan asks by these three numbers, so that the state is not copied for each thread.
+pub(crate) fn may_step(next: u32, length: u32, waits: u32) -> bool
+    ensures { λ r. ⌜ r ≡ (ltb next length && eqb waits 0) ⌝ }
+{
+    (next < length) & (waits == 0)
+}
+
 impl Replay {
     // A step is allowed if its thread exists, has a command left and isn't blocked.
     pub(crate) fn allows(self, lengths: &[u32], t: usize) -> bool
@@ -45,9 +54,7 @@ impl Replay {
         if lengths.len() <= t {
             return false;
         }
-        let waits = self.waits[t];
-        let n = self.next[t];
-        (n < lengths[t]) & (waits == 0)
+        may_step(self.next[t], lengths[t], self.waits[t])
     }
 
     // Thread t's command c registers at barrier b with a count; a sync that does not complete it blocks.

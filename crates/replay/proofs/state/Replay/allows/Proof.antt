@@ -1,8 +1,9 @@
 -- `Replay::allows` meets its contract, by its tests in their order. Assumes nothing.
 use borrow.Author.Needs.{needs}
-use borrow.Author.Tests.{lt-ltb, le-ltb}
+use borrow.Author.Tests.{le-ltb}
 use Rattle.tables.specs.Limits.{mostThreads}
 use Rattle.replay.specs.Step.{allowed}
+use Rattle.replay.proofs.Steps.{may-is}
 use Rattle.replay.proofs.state.Replay.allows.Statement.{statement}
 use Rattle.replay.proofs.state.Replay.allows.Tie as tie
 
@@ -11,8 +12,7 @@ unfolding allowed
 returns c = simp (le-ltb _ _ (c .if1 .taken))
 
 returns-2 : tie.Need-returns-2
-unfolding allowed
-returns-2 c = simp (lt-ltb _ _ (c .before .before .before .if1 .left))
+returns-2 c = may-is _ _ _ (c .before .before .before .before .if1 .left) (c .may-step .ensures)
 
 pub allows-spec : {M : Type 1} → statement M
 unfolding mostThreads
@@ -26,4 +26,5 @@ allows-spec =
     (λ c. search needs)
     (λ c. search needs)
     (λ c. search needs)
+    (λ c κs. search needs)
     returns-2)

@@ -12,6 +12,7 @@ use Rattle.tables.proofs.Rows.{first-none, first-next}
 use Rattle.replay.specs.Writer.{picked, goesFirst}
 use Rattle.replay.proofs.Picking.{picked-is}
 use Rattle.replay.proofs.Scans.{Scanned, scan-none, scan-more, scan-found, scan-end}
+use Rattle.replay.proofs.Steps.{may-is}
 use Rattle.replay.proofs.state.Replay.lowest_picked.Statement.{statement}
 use Rattle.replay.proofs.state.Replay.lowest_picked.Tie as tie
 
@@ -25,63 +26,44 @@ abbrev μ-loop : tie.MeasureT-loop
 loop-holds : tie.Need-loop-holds Inv-loop μ-loop
 loop-holds c = (scan-none _ _, sym (first-none _), omega arith)
 
-mul-c : tie.Need-mul-c Inv-loop μ-loop
-mul-c c = search needs
-
-element-copy-out-c : tie.Need-element-copy-out-c Inv-loop μ-loop
+element-copy-out-next : tie.Need-element-copy-out-next Inv-loop μ-loop
 unfolding mostThreads
-element-copy-out-c c = search needs
+element-copy-out-next c = search needs
 
-cast-c : tie.Need-cast-c Inv-loop μ-loop
-cast-c c = search needs
-
-add-c : tie.Need-add-c Inv-loop μ-loop
+add-goes-first : tie.Need-add-goes-first Inv-loop μ-loop
 unfolding mostThreads
-add-c c =
-    let l = c .before .before .loop in
-    let s = c .before .before .before .before .before .args .t1 in
+add-goes-first c =
+    let l = c .before .before .before .loop in
+    let s = c .before .before .before .before .before .before .args .t1 in
     let f : Fits w32 (getD (s .next) (l .t) 0) = search needs in
-    omega (arith, f .fits, l .inv .2, c .before .loop-test .taken)
+    omega (arith, f .fits, l .inv .2, c .before .before .loop-test .taken)
 
-allows-requires : tie.Need-allows-requires Inv-loop μ-loop
-allows-requires c κs = search needs
-
-goes-first-requires : tie.Need-goes-first-requires Inv-loop μ-loop
-goes-first-requires c κs = search needs
+element-copy-out-may-step : tie.Need-element-copy-out-may-step Inv-loop μ-loop
+unfolding mostThreads
+element-copy-out-may-step c = search needs
 
 returns : tie.Need-returns Inv-loop μ-loop
 returns c =
-    let l = c .before .before .before .before .before .loop in
-    let early = c .before .before .before .before .before .before .before .before .args .early .now in
-    scan-found _ (l .inv .0) (sym (picked-is early _ _ _ (c .before .before .allows .ensures) (l .inv .1) (c .before .goes-first .ensures)) ∙ c .if1 .taken)
-
-mul-row : tie.Need-mul-row Inv-loop μ-loop
-mul-row c = search needs
-
-shared-slice-read-row : tie.Need-shared-slice-read-row Inv-loop μ-loop
-shared-slice-read-row c = search needs
+    let l = c .before .before .before .before .before .before .before .loop in
+    let early = c .before .before .before .before .before .before .before .before .before .before .args .early .now in
+    scan-found _ (l .inv .0)
+    (sym (picked-is early _ _ _ (may-is _ _ _ (c .before .before .before .before .before .before .loop-test .taken) (c .before .may-step .ensures)) (l .inv .1) (c .before .before .before .goes-first .ensures)) ∙ c .if1 .taken)
 
 cast-row : tie.Need-cast-row Inv-loop μ-loop
-cast-row c = omega (arith, c .shared-slice-known3 .given (c .before .before .before .before .before .before .loop .t))
+cast-row c = omega (arith, c .before .before .before .before .shared-slice-known3 .given (c .before .before .before .before .before .before .before .loop .t))
 
 add-row : tie.Need-add-row Inv-loop μ-loop
 unfolding mostThreads
-add-row c = omega (arith, c .shared-slice-known3 .given (c .before .before .before .before .before .before .loop .t))
-
-add-t : tie.Need-add-t Inv-loop μ-loop
-add-t c = search needs
-
-loop-less : tie.Need-loop-less Inv-loop μ-loop
-loop-less c = search needs
+add-row c = omega (arith, c .before .before .before .before .shared-slice-known3 .given (c .before .before .before .before .before .before .before .loop .t))
 
 loop-again : tie.Need-loop-again Inv-loop μ-loop
 loop-again c =
-    let l = c .before .before .before .before .before .before .loop in
-    let a = c .before .before .before .before .before .before .before .before .before .args in (
-      scan-more _ (l .inv .0) (c .before .before .before .before .before .loop-test .taken)
-          (sym (picked-is (a .early .now) _ _ _ (c .before .before .before .allows .ensures) (l .inv .1) (c .before .before .goes-first .ensures)) ∙ c .before .if1 .left),
+    let l = c .before .before .before .before .before .before .before .loop in
+    let a = c .before .before .before .before .before .before .before .before .before .before .args in (
+      scan-more _ (l .inv .0) (c .before .before .before .before .before .before .loop-test .taken)
+          (sym (picked-is (a .early .now) _ _ _ (may-is _ _ _ (c .before .before .before .before .before .before .loop-test .taken) (c .before .may-step .ensures)) (l .inv .1) (c .before .before .before .goes-first .ensures)) ∙ c .if1 .left),
       omega (arith, first-next (a .lengths .now) (l .t), l .inv .1),
-      omega (arith, l .inv .2, c .shared-slice-known3 .given (l .t)),
+      omega (arith, l .inv .2, c .before .before .before .before .shared-slice-known3 .given (l .t)),
     )
 
 returns-2 : tie.Need-returns-2 Inv-loop μ-loop
@@ -94,18 +76,20 @@ lowest-picked-spec =
     Inv-loop
     μ-loop
     loop-holds
-    mul-c
-    element-copy-out-c
-    cast-c
-    add-c
-    allows-requires
-    goes-first-requires
+    (λ c. search needs)
+    element-copy-out-next
+    (λ c. search needs)
+    (λ c. search needs)
+    (λ c. search needs)
+    add-goes-first
+    (λ c κs. search needs)
+    (λ c. search needs)
+    element-copy-out-may-step
+    (λ c κs. search needs)
     returns
-    mul-row
-    shared-slice-read-row
     cast-row
     add-row
-    add-t
-    loop-less
+    (λ c. search needs)
+    (λ c. search needs)
     loop-again
     returns-2)
