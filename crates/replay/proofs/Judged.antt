@@ -17,6 +17,7 @@ use Rattle.tables.specs.declared.verdict.Verdict.{Verdict}
 use Rattle.tables.specs.declared.verdict.Verdict.the-variants as verdict
 use Rattle.tables.proofs.Lowest.{lowest-miss}
 use Rattle.tables.proofs.Verdicts.{zero-clean}
+use Rattle.turns.specs.Turns.{mayStep}
 use Rattle.replay.specs.declared.state.Replay.{Replay}
 use Rattle.replay.specs.declared.replay.Replayed.{Replayed}
 use Rattle.replay.specs.Replay.{played}
@@ -67,7 +68,7 @@ module _ (commands lengths σ : List ℕ) where
   s = stateAfter commands lengths σ
 
   pub stops-by : ltb (lowestAllowed lengths s) (length lengths) ≡ false → Stops commands lengths σ
-  unfolding allowed
+  unfolding allowed mayStep
   stops-by e t =
       by-cases (decLt t (length lengths)) (λ (l : t < length lengths). lowest-miss (allowed lengths s) (length lengths) e t l)
       (λ (n : ¬ (t < length lengths)). rw (le-ltb t (length lengths) (omega arith)))

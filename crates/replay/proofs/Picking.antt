@@ -1,4 +1,4 @@
--- Which thread is picked, by the tests of the scan; and that no more is asked of the commands that go first than what is said of rows. Assumes nothing.
+-- Which thread a writer lets step; and that no more is asked of the commands that go first than what is said of rows. Assumes nothing.
 use mathlib.Core.Path.{_≡_, refl, sym, _∙_}
 use mathlib.Core.Bool.{Bool, false, not, _&&_, _||_}
 use mathlib.Core.List.{List}
@@ -9,50 +9,33 @@ use lib.Dec.{eqb}
 use lib.ListN.{length, set, length-set, List·getD-eq-default}
 use lib.Seq.{getD-set-same, getD-set-other}
 use borrow.Author.Count.{below-none, below-more}
-use borrow.Author.Tests.{lt-ltb, le-ltb}
 use Rattle.tables.specs.Lowest.{lowest}
 use Rattle.tables.specs.Rows.{rows, firstRow}
 use Rattle.tables.specs.Rules.{Keeps}
 use Rattle.tables.proofs.Lowest.{lowest-first, lowest-is}
+use Rattle.turns.specs.Turns.{goesFirst, stepsFirst, turn}
+use Rattle.turns.proofs.Turns.{or-none}
 use Rattle.relation.proofs.Truth.{split}
 use Rattle.replay.specs.declared.state.Replay.{Replay}
-use Rattle.replay.specs.State.{start, ranSoFar}
+use Rattle.replay.specs.State.{start}
 use Rattle.replay.specs.Step.{allowed, command, stepped}
 use Rattle.replay.specs.Ending.{lowestAllowed}
-use Rattle.replay.specs.Writer.{stepping, scheduleBy, picked, lowestPicked, pickedFirst, goesFirst, apartFrom, apartSchedule, PutsApart}
+use Rattle.replay.specs.Writer.{stepping, scheduleBy, picked, pickedFirst, apartFrom, apartSchedule, PutsApart}
 use Rattle.replay.proofs.Steps.{may, next-row}
-
--- ---- the tests of the scan
-
-pub picked-is : (early : List Bool) (lengths : List ℕ) (s : Replay) (t : ℕ) {a b : Bool} {row : ℕ} → a ≡ allowed lengths s t → row ≡ firstRow lengths t
-    → b ≡ goesFirst early (row + ranSoFar s t) → (a && b) ≡ picked (goesFirst early) lengths s t
-unfolding picked
-picked-is early lengths s t e f g = rw (e, g, f)
 
 -- ---- the thread that steps
 
-module _ (early : ℕ → Bool) (lengths : List ℕ) (s : Replay) where
-  module _ {t : ℕ} (is : t ≡ lowestPicked early lengths s) where
-    pub picks-it : t < length lengths → t ≡ pickedFirst early lengths s
-    unfolding pickedFirst
-    picks-it l = rw (lt-ltb (lowestPicked early lengths s) (length lengths) (omega (arith, is))) is
+-- whose turn it is, of what the state holds
+pub turn-is : (early : ℕ → Bool) (lengths : List ℕ) (s : Replay) {t : ℕ} → t ≡ turn early lengths (s .next) (s .waits) → t ≡ pickedFirst early lengths s
+unfolding pickedFirst picked allowed stepsFirst
+turn-is early lengths s e = e
 
-    pub picks-other : length lengths ≤ t → {r : ℕ} → r ≡ lowestAllowed lengths s → r ≡ pickedFirst early lengths s
-    unfolding pickedFirst
-    picks-other l q = rw (le-ltb (lowestPicked early lengths s) (length lengths) (omega (arith, is))) q
-
-  none-lowest : ((x : ℕ) → early x ≡ false) → lowestPicked early lengths s ≡ length lengths
-  unfolding picked
-  none-lowest none =
-      lowest-is (picked early lengths s) (record {
-        at-most = omega arith;
-        passes = λ l. absurd (omega arith);
-        below = λ k _. ⊎-elim (λ e. rw e (none (command lengths s k))) (λ e. rw e) (split (allowed lengths s k));
-      })
-
-  -- where no command goes first, the lowest allowed thread steps
-  pub picks-lowest : ((x : ℕ) → early x ≡ false) → lowestAllowed lengths s ≡ pickedFirst early lengths s
-  picks-lowest none = picks-other (sym (none-lowest none)) (omega arith) refl
+-- where no command goes first, the lowest allowed thread steps
+pub picks-lowest : (early : ℕ → Bool) (lengths : List ℕ) (s : Replay) → ((x : ℕ) → early x ≡ false) → lowestAllowed lengths s ≡ pickedFirst early lengths s
+unfolding pickedFirst picked
+picks-lowest early lengths s none =
+    or-none (picked early lengths s) (allowed lengths s) (length lengths)
+    (λ k _. ⊎-elim (λ e. rw e (none (command lengths s k))) (λ e. rw e) (split (allowed lengths s k)))
 
 -- ---- choices that are alike write the same schedule
 

@@ -8,6 +8,7 @@ use lib.Dec.{eqb}
 use lib.ListN.{getD, List·getD-map}
 use borrow.Author.Tests.{eq-eqb, ne-eqb}
 use Rattle.relation.proofs.Truth.{split}
+use Rattle.turns.specs.Turns.{letGo}
 use Rattle.replay.specs.declared.barrier.Phase.the-variants.{Unset, Expecting}
 use Rattle.replay.specs.declared.barrier.Barrier.{Barrier}
 use Rattle.replay.specs.declared.barrier.Met.{Met}
@@ -17,7 +18,7 @@ use Rattle.replay.specs.declared.step.How.the-variants.{Mismatch}
 use Rattle.replay.specs.declared.step.Did.the-variants.{Took}
 use Rattle.replay.specs.declared.step.Stepped.{Stepped}
 use Rattle.replay.specs.Barrier.{oneMore, met}
-use Rattle.replay.specs.State.{waiting, barrierAt, stored, advanced, blocked, letGo, freed}
+use Rattle.replay.specs.State.{waiting, barrierAt, stored, advanced, blocked, freed}
 use Rattle.replay.specs.Step.{ran, registering}
 
 -- what a barrier that expects a count meets

@@ -1,17 +1,18 @@
 -- One step: when it is allowed, which row it runs, and what it then does. Assumes nothing.
-use mathlib.Core.Path.{_≡_, ap, _∙_}
-use mathlib.Core.Bool.{Bool, true, false, _&&_}
+use mathlib.Core.Path.{_≡_, sym, ap, _∙_}
+use mathlib.Core.Bool.{Bool, true, false}
 use mathlib.Core.List.{List}
 use Prim.Native.Nat.{ℕ, min, _+_, _≤_, _<_}
 use native.Mathlib.Omega.{arith}
-use lib.Dec.{eqb, ltb}
+use lib.Dec.{ltb}
 use lib.ListN.{length, getD}
-use borrow.Author.Tests.{ltb-true, eqb-true, lt-ltb, le-leb, lt-leb}
+use borrow.Author.Tests.{ltb-true, eqb-true, le-leb, lt-leb}
 use Rattle.tables.specs.Limits.{mostRows, mostThreads}
 use Rattle.tables.specs.Rows.{rows, kind, name, count, arrive, firstRow}
 use Rattle.tables.specs.Rules.{Keeps}
 use Rattle.tables.proofs.Rows.{first-within, end-most}
 use Rattle.tables.proofs.Rules.{row-barrier}
+use Rattle.turns.specs.Turns.{mayStep}
 use Rattle.relation.proofs.Truth.{both}
 use Rattle.replay.specs.declared.state.Replay.{Replay}
 use Rattle.replay.specs.declared.step.Did.the-variants.{NotAllowed}
@@ -26,16 +27,16 @@ pub record May (lengths : List ℕ) (s : Replay) (t : ℕ) : Type 0 where
   pub free : waiting s t ≡ 0
 
 pub may : (lengths : List ℕ) (s : Replay) (t : ℕ) → allowed lengths s t ≡ true → May lengths s t
-unfolding allowed
+unfolding allowed mayStep
 may lengths s t e =
     let (f, u) = both (ltb t (length lengths)) _ e in
     let (g, h) = both (ltb (ranSoFar s t) (getD lengths t 0)) _ u in
     record { there = ltb-true _ _ f; left = ltb-true _ _ g; free = eqb-true _ _ h }
 
--- by the three numbers of a thread that is there
-pub may-is : (lengths : List ℕ) (s : Replay) (t : ℕ) → t < length lengths → {r : Bool} → r ≡ (ltb (ranSoFar s t) (getD lengths t 0) && eqb (waiting s t) 0) → r ≡ allowed lengths s t
+-- by the answer of who asks
+pub may-is : (lengths : List ℕ) (s : Replay) (t : ℕ) {r b : Bool} → r ≡ mayStep lengths (s .next) (s .waits) t → r ≡ b → allowed lengths s t ≡ b
 unfolding allowed
-may-is lengths s t l e = rw (lt-ltb t (length lengths) l) e
+may-is lengths s t e f = sym e ∙ f
 
 -- ---- thread t runs its command c
 

@@ -20,13 +20,14 @@ use Rattle.schedules.proofs.Logs.{Allowed}
 use Rattle.schedules.proofs.Step.{gen-same, gen-idle, done-kept}
 use Rattle.schedules.proofs.Good.{Good}
 use Rattle.schedules.proofs.Threads.{stand, may, good-after, at-same, at-other}
+use Rattle.turns.specs.Turns.{letGo, released}
 use Rattle.replay.specs.declared.barrier.Barrier.{Barrier}
 use Rattle.replay.specs.declared.state.Replay.{Replay}
 use Rattle.replay.specs.declared.step.How.the-variants as how
 use Rattle.replay.specs.declared.step.Did.the-variants.{NotAllowed, Took}
 use Rattle.replay.specs.declared.step.Stepped.{Stepped}
 use Rattle.replay.specs.Barrier.{soFar, refuses, unset, expecting}
-use Rattle.replay.specs.State.{ranSoFar, waiting, barrierAt, advanced, stored, freed, letGo, released}
+use Rattle.replay.specs.State.{ranSoFar, waiting, barrierAt, advanced, stored, freed}
 use Rattle.replay.specs.Step.{registers, syncs, allowed, command, registering, running, stepped}
 use Rattle.replay.specs.Step as step
 use Rattle.replay.specs.Program.{program}

@@ -17,6 +17,7 @@ use Rattle.schedules.specs.Machine.{Program, registered, member, state}
 use Rattle.schedules.specs.Threads.{Threads, at, after, Blocked, Steps, Legal}
 use Rattle.schedules.proofs.Tally.{tally-most}
 use Rattle.schedules.proofs.Threads.{stand, may, good-after}
+use Rattle.turns.specs.Turns.{mayStep}
 use Rattle.replay.specs.declared.state.Replay.{Replay}
 use Rattle.replay.specs.State.{start, ranSoFar, waiting, barrierAt}
 use Rattle.replay.specs.Step.{allowed, command, Counts}
@@ -78,7 +79,7 @@ module _ {commands lengths : List ℕ} (K : Keeps commands lengths) where
     command-is = S .tie .command
 
     pub allowed-steps : (t : ℕ) → allowed lengths s t ≡ true → Steps P H υ t
-    unfolding allowed
+    unfolding allowed mayStep
     allowed-steps t e =
         let (a, f) = both (ltb t (length lengths)) _ e in
         let (b, c) = both (ltb (ranSoFar s t) (getD lengths t 0)) _ f in
@@ -93,7 +94,7 @@ module _ {commands lengths : List ℕ} (K : Keeps commands lengths) where
         (λ (n : waiting s t ≢ 0). absurd (st .free (held-blocked (S .tie .wait t (st .exists) .held n))))
 
     pub steps-allowed : (t : ℕ) → Steps P H υ t → allowed lengths s t ≡ true
-    unfolding allowed
+    unfolding allowed mayStep
     steps-allowed t st =
         let more : ranSoFar s t < getD lengths t 0 = omega (arith, command-is t (st .exists)) in
         pair _ _ (lt-ltb _ _ (st .exists)) (pair _ _ (lt-ltb _ _ more) (eq-eqb _ _ (waits-not st)))

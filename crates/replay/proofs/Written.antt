@@ -16,8 +16,9 @@ use Rattle.tables.specs.Verdicts.{numbered}
 use Rattle.tables.specs.declared.verdict.Told.{Told}
 use Rattle.relation.specs.Table.{words, inside, related}
 use Rattle.relation.proofs.Truth.{clashing, both, isnt}
+use Rattle.turns.specs.Turns.{goesFirst}
 use Rattle.replay.specs.declared.writer.Written.{Written}
-use Rattle.replay.specs.Writer.{schedule, firstSchedule, goesFirst, apartFrom, PutsApart, FilledBy}
+use Rattle.replay.specs.Writer.{schedule, firstSchedule, apartFrom, PutsApart, FilledBy}
 use Rattle.replay.specs.Doors.{WritesBy, WritesSchedule, WritesApart}
 use Rattle.replay.specs.Schedules.{Complete}
 use Rattle.replay.proofs.Refusals.{unwritten-keeps}

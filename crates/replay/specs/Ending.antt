@@ -1,9 +1,9 @@
 -- How a replay that went through ended.
 use mathlib.Core.Path.{_≡_}
-use mathlib.Core.Bool.{Bool, true, cond, not}
+use mathlib.Core.Bool.{Bool, true, cond}
 use mathlib.Core.List.{List}
 use Prim.Native.Nat.{ℕ, _-_, _≤_, _<_}
-use lib.Dec.{eqb, ltb}
+use lib.Dec.{ltb}
 use lib.ListN.{length}
 use Rattle.tables.specs.Limits.{mostRows, mostThreads, barriers}
 use Rattle.tables.specs.Lowest.{lowest}
@@ -11,16 +11,17 @@ use Rattle.tables.specs.Rows.{total}
 use Rattle.tables.specs.Verdicts.{tell, numbered}
 use Rattle.tables.specs.declared.verdict.Told.{Told}
 use Rattle.tables.specs.declared.verdict.Verdict.the-variants as verdict
+use Rattle.turns.specs.Turns.{held}
 use Rattle.replay.specs.declared.state.Replay.{Replay}
 use Rattle.replay.specs.declared.replay.Replayed.{Replayed}
 use Rattle.replay.specs.InOrder.{orElse}
 use Rattle.replay.specs.Barrier.{isSet}
-use Rattle.replay.specs.State.{ranSoFar, waiting, barrierAt}
+use Rattle.replay.specs.State.{ranSoFar, barrierAt}
 use Rattle.replay.specs.Step.{allowed, command}
 
 -- A blocked thread with nothing left to run hasn't finished.
 abbrev pub isBlocked : Replay → ℕ → Bool
-isBlocked s t = not (eqb (waiting s t) 0)
+isBlocked s t = held (s .waits) t
 
 abbrev pub barrierSet : Replay → ℕ → Bool
 barrierSet s b = isSet (barrierAt s b .phase)

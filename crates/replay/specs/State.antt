@@ -1,10 +1,8 @@
 -- The replay state: how many commands each thread has run, what it waits for (0, or the barrier plus 1), and the barriers.
-use mathlib.Core.Bool.{cond}
-use mathlib.Core.List.{List, map}
 use Prim.Native.Nat.{ℕ, _+_}
-use lib.Dec.{eqb}
 use lib.ListN.{getD, set, replicate}
 use Rattle.tables.specs.Limits.{mostThreads, barriers}
+use Rattle.turns.specs.Turns.{released}
 use Rattle.replay.specs.declared.barrier.Barrier.{Barrier}
 use Rattle.replay.specs.declared.state.Replay.{Replay}
 use Rattle.replay.specs.Barrier.{unset}
@@ -35,13 +33,6 @@ stored s b v = record { next = s .next; waits = s .waits; barriers = set (s .bar
 -- thread t waits at barrier b
 abbrev pub blocked : Replay → ℕ → ℕ → Replay
 blocked s t b = record { next = s .next; waits = set (s .waits) t (b + 1); barriers = s .barriers }
-
--- every thread that waits for w is released
-abbrev pub letGo : ℕ → ℕ → ℕ
-letGo w waits = cond (eqb waits w) 0 waits
-
-abbrev pub released : ℕ → List ℕ → List ℕ
-released w = map (letGo w)
 
 -- every thread blocked at barrier b is released
 abbrev pub freed : Replay → ℕ → Replay

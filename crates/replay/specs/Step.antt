@@ -1,13 +1,13 @@
 -- One step runs the next command of one thread.
 use mathlib.Core.Path.{_≡_}
-use mathlib.Core.Bool.{Bool, true, false, cond, _&&_}
+use mathlib.Core.Bool.{Bool, true, false, cond}
 use mathlib.Core.List.{List}
 use Prim.Native.Nat.{ℕ, _+_, _<_}
-use lib.Dec.{eqb, leb, ltb}
-use lib.ListN.{length, getD}
+use lib.Dec.{eqb, leb}
 use Rattle.tables.specs.Limits.{mostThreads, barriers}
 use Rattle.tables.specs.Rows.{rows, kind, name, count, arrive, sync, firstRow}
 use Rattle.tables.specs.Rules.{keeps}
+use Rattle.turns.specs.Turns.{mayStep}
 use Rattle.replay.specs.declared.barrier.Met.{Met}
 use Rattle.replay.specs.declared.barrier.Met.the-variants.{Clash, Stays, Completes}
 use Rattle.replay.specs.declared.state.Replay.{Replay}
@@ -15,7 +15,7 @@ use Rattle.replay.specs.declared.step.How.the-variants.{Mismatch, Ran}
 use Rattle.replay.specs.declared.step.Did.the-variants.{NotAllowed, Took}
 use Rattle.replay.specs.declared.step.Stepped.{Stepped}
 use Rattle.replay.specs.Barrier.{met, Small, top}
-use Rattle.replay.specs.State.{ranSoFar, waiting, barrierAt, advanced, stored, blocked, freed}
+use Rattle.replay.specs.State.{ranSoFar, barrierAt, advanced, stored, blocked, freed}
 
 -- Arrive registers and goes on. Sync registers and blocks its thread. Read and write change no barrier.
 abbrev pub registers : List ℕ → ℕ → Bool
@@ -26,7 +26,7 @@ syncs commands c = eqb (kind commands c) sync
 
 -- A step is allowed if its thread exists, has a command left and isn't blocked.
 unfoldable pub allowed : List ℕ → Replay → ℕ → Bool
-allowed lengths s t = ltb t (length lengths) && (ltb (ranSoFar s t) (getD lengths t 0) && eqb (waiting s t) 0)
+allowed lengths s t = mayStep lengths (s .next) (s .waits) t
 
 -- the next command of thread t
 abbrev pub command : List ℕ → Replay → ℕ → ℕ

@@ -5,12 +5,13 @@ use mathlib.Core.Bool.{Bool, true, false, cond, not, _&&_, _||_}
 use mathlib.Core.List.{List, [], _∷_, _++_}
 use Prim.Native.Nat.{ℕ, zero, suc, _≤_, _<_}
 use lib.Dec.{eqb, ltb}
-use lib.ListN.{length, drop, getD}
+use lib.ListN.{length, drop}
 use Rattle.tables.specs.Lowest.{lowest}
 use Rattle.tables.specs.Rows.{rows}
 use Rattle.tables.specs.Rules.{Keeps, checked}
 use Rattle.tables.specs.Verdicts.{tell}
 use Rattle.tables.specs.declared.verdict.Told.{Told}
+use Rattle.turns.specs.Turns.{goesFirst, lowestOr}
 use Rattle.replay.specs.declared.state.Replay.{Replay}
 use Rattle.replay.specs.declared.step.How.the-variants.{Mismatch, Ran}
 use Rattle.replay.specs.declared.step.Did.{Did}
@@ -54,7 +55,7 @@ lowestPicked early lengths s = lowest (picked early lengths s) (length lengths)
 
 -- Where there is such a thread, the lowest of them steps, and else the lowest allowed thread.
 unfoldable pub pickedFirst : (ℕ → Bool) → List ℕ → Replay → ℕ
-pickedFirst early lengths s = cond (ltb (lowestPicked early lengths s) (length lengths)) (lowestPicked early lengths s) (lowestAllowed lengths s)
+pickedFirst early lengths s = lowestOr (picked early lengths s) (allowed lengths s) (length lengths)
 
 -- d, and what c does not reach
 unfoldable pub apartFrom : (ℕ → ℕ → Bool) → (c d : ℕ) → ℕ → Bool
@@ -65,10 +66,6 @@ abbrev pub apartSchedule : List ℕ → List ℕ → (ℕ → ℕ → Bool) → 
 apartSchedule commands lengths ρ c d = scheduleBy (pickedFirst (apartFrom ρ c d) lengths) commands lengths
 
 -- ---- which commands go first, as a list that a function is lent
-
--- a command goes first where the list says so; a list that is too short says no
-abbrev pub goesFirst : List Bool → ℕ → Bool
-goesFirst early x = getD early x false
 
 abbrev pub firstSchedule : List Bool → List ℕ → List ℕ → List ℕ
 firstSchedule early commands lengths = scheduleBy (pickedFirst (goesFirst early) lengths) commands lengths

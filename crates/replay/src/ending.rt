@@ -1,19 +1,18 @@
 // How a replay that went through ended: verdicts 6, 8 and 9.
 ghost use mathlib.Core.Path.{_≡_};
-ghost use Prim.Native.Nat.{_≤_};
-ghost use lib.ListN.{length};
-ghost use Rattle.tables.specs.Limits.{mostThreads, barriers};
+ghost use Prim.Native.Nat.{_+_, _-_, _≤_};
+ghost use Rattle.tables.specs.Limits.{mostRows, barriers};
 ghost use Rattle.tables.specs.Lowest.{lowest};
 ghost use Rattle.tables.specs.Verdicts.{numbered};
 ghost use Rattle.replay.specs.Barrier.{isSet};
-ghost use Rattle.replay.specs.Step.{allowed};
-ghost use Rattle.replay.specs.Ending.{isBlocked, barrierSet, ended, Ends};
+ghost use Rattle.replay.specs.Ending.{barrierSet, ended, Ends};
 use crate::barrier::Phase;
 use crate::state::Replay;
-use crate::step::may_step;
 use tables::Table;
 use tables::Verdict;
 use tables::first_row;
+use turns::lowest_allowed;
+use turns::lowest_blocked;
 
 fn is_set(phase: Phase) -> bool
     ensures { λ r. ⌜ r ≡ isSet phase ⌝ }
@@ -24,37 +23,15 @@ fn is_set(phase: Phase) -> bool
     }
 }
 
+// The last command that a thread has run, from its first row and how many it has run.
+fn last_run(first: usize, ran: u32) -> usize
+    requires { ⌜ (first ≤ mostRows) × (1 ≤ ran) ⌝ }
+    ensures { λ r. ⌜ r ≡ first + ran - 1 ⌝ }
+{
+    first + ran as usize - 1
+}
+
 impl Replay {
-    // The lowest thread that may step, or the number of threads.
-    pub(crate) fn lowest_allowed(self, lengths: &[u32]) -> usize
-        requires { ⌜ length (now lengths) ≤ mostThreads ⌝ }
-        ensures { λ r. ⌜ r ≡ lowest (allowed (now (lengths .entry)) self) (length (now (lengths .entry))) ⌝ }
-    {
-        let mut t = 0;
-        while t < lengths.len() {
-            if may_step(self.next[t], lengths[t], self.waits[t]) {
-                return t;
-            }
-            t += 1;
-        }
-        t
-    }
-
-    // The lowest of some threads that is blocked, or their number.
-    fn lowest_blocked(self, threads: usize) -> usize
-        requires { ⌜ threads ≤ mostThreads ⌝ }
-        ensures { λ r. ⌜ r ≡ lowest (isBlocked self) threads ⌝ }
-    {
-        let mut t = 0;
-        while t < threads {
-            if self.waits[t] != 0 {
-                return t;
-            }
-            t += 1;
-        }
-        t
-    }
-
     // The lowest barrier that is set, or the number of barriers.
     fn lowest_set(self) -> usize
         ensures { λ r. ⌜ r ≡ lowest (barrierSet self) barriers ⌝ }
@@ -77,13 +54,12 @@ impl Replay {
         ensures { λ r. ⌜ numbered r ≡ ended (now (lengths .entry)) self steps ⌝ }
     {
         let threads = lengths.len();
-        if self.lowest_allowed(lengths) < threads {
+        if lowest_allowed(lengths, &self.next, &self.waits) < threads {
             return Verdict::Unfinished(steps);
         }
-        let t = self.lowest_blocked(threads);
+        let t = lowest_blocked(&self.waits, threads);
         if t < threads {
-            let n = self.next[t] as usize;
-            return Verdict::Blocked(first_row(lengths, t) + n - 1);
+            return Verdict::Blocked(last_run(first_row(lengths, t), self.next[t]));
         }
         let b = self.lowest_set();
         if b < Table::BARRIERS {

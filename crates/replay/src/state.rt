@@ -4,36 +4,17 @@ ghost use Prim.Native.Nat.{_<_};
 ghost use lib.ListN.{getD};
 ghost use Rattle.tables.specs.Limits.{mostThreads, barriers};
 ghost use Rattle.replay.specs.Barrier.{top};
-ghost use Rattle.replay.specs.State.{start, letGo, released, advanced, stored, blocked, freed};
+ghost use Rattle.replay.specs.State.{start, advanced, stored, blocked, freed};
 use crate::barrier::Barrier;
 use crate::barrier::Phase;
 use tables::Table;
+use turns::release;
 
 // How many commands each thread has run; what it waits for, 0 or the barrier plus 1; the barriers.
 pub(crate) struct Replay {
     pub(crate) next: [u32; Table::THREADS],
     pub(crate) waits: [u32; Table::THREADS],
     pub(crate) barriers: [Barrier; Table::BARRIERS],
-}
-
-// A thread that waits for w does so no more.
-fn let_go(waits: u32, w: u32) -> u32
-    ensures { λ r. ⌜ r ≡ letGo w waits ⌝ }
-{
-    if waits == w { 0 } else { waits }
-}
-
-// Every thread that waits for w is released.
-fn release(waits: [u32; Table::THREADS], w: u32) -> [u32; Table::THREADS]
-    ensures { λ r. ⌜ r ≡ released w waits ⌝ }
-{
-    let mut after = waits;
-    let mut t = 0;
-    while t < Table::THREADS {
-        after[t] = let_go(after[t], w);
-        t += 1;
-    }
-    after
 }
 
 impl Replay {

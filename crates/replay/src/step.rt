@@ -1,16 +1,12 @@
 // One step: it runs the next command of one thread.
 ghost use mathlib.Core.Path.{_≡_};
-ghost use mathlib.Core.Bool.{_&&_};
-ghost use Prim.Native.Nat.{_≤_};
-ghost use lib.Dec.{eqb, ltb};
-ghost use lib.ListN.{length};
-ghost use Rattle.tables.specs.Limits.{mostThreads};
 ghost use Rattle.tables.specs.Rules.{Keeps};
-ghost use Rattle.replay.specs.Step.{allowed, ran, registering, running, stepped, Registers, Runs, Counts};
+ghost use Rattle.replay.specs.Step.{ran, registering, running, stepped, Registers, Runs, Counts};
 use crate::barrier::Met;
 use crate::state::Replay;
 use tables::Table;
 use tables::first_row;
+use turns::allows;
 
 // An allowed step met a mismatch at a command, or ran a command, which has this generation.
 pub(crate) enum How {
@@ -38,25 +34,7 @@ fn ran(after: Replay, c: usize, generation: u32) -> Stepped
     }
 }
 
-// Has a thread a command left, and isn't it blocked? A scan asks by these three numbers, so that the state is not copied for each thread.
-pub(crate) fn may_step(next: u32, length: u32, waits: u32) -> bool
-    ensures { λ r. ⌜ r ≡ (ltb next length && eqb waits 0) ⌝ }
-{
-    (next < length) & (waits == 0)
-}
-
 impl Replay {
-    // A step is allowed if its thread exists, has a command left and isn't blocked.
-    pub(crate) fn allows(self, lengths: &[u32], t: usize) -> bool
-        requires { ⌜ length (now lengths) ≤ mostThreads ⌝ }
-        ensures { λ r. ⌜ r ≡ allowed (now (lengths .entry)) self t ⌝ }
-    {
-        if lengths.len() <= t {
-            return false;
-        }
-        may_step(self.next[t], lengths[t], self.waits[t])
-    }
-
     // Thread t's command c registers at barrier b with a count; a sync that does not complete it blocks.
     fn register(self, t: usize, c: usize, sync: bool, b: usize, count: u32) -> Stepped
         requires { ⌜ Registers self t b ⌝ }
@@ -100,7 +78,7 @@ impl Replay {
         requires { ⌜ Keeps (now commands) (now lengths) × Counts self ⌝ }
         ensures { λ r. ⌜ r ≡ stepped (now (commands .entry)) (now (lengths .entry)) self t ⌝ }
     {
-        if !self.allows(lengths, t) {
+        if !allows(lengths, &self.next, &self.waits, t) {
             return Stepped {
                 after: self,
                 did: Did::NotAllowed,

@@ -13,6 +13,7 @@ use relation::related;
 use tables::Table;
 use tables::Verdict;
 use tables::check_tables;
+use turns::choose;
 
 // 1 to 4, or 0 and the length of the schedule that was written.
 pub struct Written {
@@ -42,7 +43,7 @@ fn write(commands: &[u32], lengths: &[u32], early: &[bool], room: &mut [u32]) ->
     let mut state = Replay::start();
     let mut steps = 0;
     while steps < m {
-        let t = state.choose(lengths, early);
+        let t = choose(lengths, &state.next, &state.waits, early);
         if t == lengths.len() {
             return steps;
         }

@@ -6,7 +6,7 @@ use borrow.Author.Needs.{needs}
 use borrow.Author.Tests.{eq-eqb}
 use Rattle.tables.specs.Limits.{mostRows}
 use Rattle.rooms.specs.Rooms.{numberAt}
-use Rattle.replay.proofs.Scans.{Scanned, scan-none, scan-more}
+use Rattle.tables.proofs.Scans.{Scanned, scan-none, scan-more}
 use Rattle.exhibits.specs.Shown.{differs}
 use Rattle.exhibits.proofs.Showing.{other-found, other-none}
 use Rattle.exhibits.proofs.shown.other_generation.Statement.{statement}

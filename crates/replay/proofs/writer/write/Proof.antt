@@ -7,7 +7,9 @@ use borrow.Author.Needs.{needs}
 use borrow.Author.Tests.{not-true, not-false}
 use Rattle.tables.specs.Limits.{mostThreads}
 use Rattle.tables.specs.Rows.{rows}
-use Rattle.replay.specs.Writer.{goesFirst, pickedFirst}
+use Rattle.turns.specs.Turns.{goesFirst}
+use Rattle.replay.specs.Writer.{pickedFirst}
+use Rattle.replay.proofs.Picking.{turn-is}
 use Rattle.replay.proofs.Standing.{standing-counts}
 use Rattle.replay.proofs.Writing.{Writing, picked-chooses, writing-start, writing-long, writing-end, writing-none, writing-thread, writing-more, writing-last}
 use Rattle.replay.proofs.writer.write.Statement.{statement}
@@ -23,50 +25,51 @@ abbrev μ-loop : tie.MeasureT-loop
 loop-holds : tie.Need-loop-holds Inv-loop μ-loop
 loop-holds c = let s = c .before .before .before .before .before in (rw (c .start .ensures) (writing-start _ _ _ _ (picked-chooses _ _) (s .pre .keeps) (s .pre .fits)), refl)
 
-choose-requires : tie.Need-choose-requires Inv-loop μ-loop
-choose-requires c κs = c .before .loop .inv .0 .standing .keeps .few-threads
-
 same-length : tie.Need-same-length Inv-loop μ-loop
-same-length c = writing-long _ _ _ _ (c .before .before .before .loop .inv .0)
+same-length c = writing-long _ _ _ _ (c .before .before .before .before .before .before .before .before .loop .inv .0)
 
 returns : tie.Need-returns Inv-loop μ-loop
 returns c =
-    let l = c .before .before .before .loop in
-    writing-none _ _ _ _ (l .inv .0) (omega (arith, l .inv .1, c .before .before .loop-test .taken)) _ (c .before .choose .ensures) (c .if1 .taken)
+    let q = c .before .before .before .before .before .before .before in
+    let l = q .before .loop in
+    writing-none _ _ _ _ (l .inv .0) (omega (arith, l .inv .1, q .loop-test .taken)) _ (turn-is _ _ (l .state) (c .before .choose .ensures)) (c .if1 .taken)
 
 step-requires : tie.Need-step-requires Inv-loop μ-loop
-step-requires c κs = let W = c .before .before .before .loop .inv .0 in (W .standing .keeps, standing-counts (W .standing))
+step-requires c κs = let W = c .before .before .before .before .before .before .before .before .loop .inv .0 in (W .standing .keeps, standing-counts (W .standing))
 
 slice-write-room : tie.Need-slice-write-room Inv-loop μ-loop
 slice-write-room c =
-    let l = c .before .before .before .loop in
-    omega (arith, writing-long _ _ _ _ (l .inv .0), l .inv .0 .fits, l .inv .1, c .before .before .loop-test .taken)
+    let q = c .before .before .before .before .before .before .before in
+    let l = q .before .loop in
+    omega (arith, writing-long _ _ _ _ (l .inv .0), l .inv .0 .fits, l .inv .1, q .loop-test .taken)
 
 cast-room : tie.Need-cast-room Inv-loop μ-loop
 unfolding mostThreads
 cast-room c =
-    let W = c .before .before .before .loop .inv .0 in
-    omega (arith, W .standing .keeps .few-threads, writing-thread _ _ _ _ W (c .before .choose .ensures))
+    let l = c .before .before .before .before .before .before .before .before .loop in
+    omega (arith, l .inv .0 .standing .keeps .few-threads, writing-thread _ _ _ _ (l .inv .0) (turn-is _ _ (l .state) (c .before .choose .ensures)))
 
 same-length-2 : tie.Need-same-length-2 Inv-loop μ-loop
 same-length-2 c =
-    let l = c .before .before .before .before .before .before .before .loop in
+    let l = c .before .before .before .before .before .before .before .before .before .before .before .before .loop in
     length-set (l .room) (l .steps) _ ∙ writing-long _ _ _ _ (l .inv .0)
 
 returns-2 : tie.Need-returns-2 Inv-loop μ-loop
 returns-2 c =
     let q = c .before .before .before in
     let w = q .before .before in
-    let l = w .before .before .loop in
-    writing-last _ _ _ _ (l .inv .0) (omega (arith, l .inv .1, w .before .loop-test .taken)) _ (w .choose .ensures) (q .before .if1 .left) (q .step .result) (q .step .ensures)
+    let p = w .before .before .before .before .before .before in
+    let l = p .before .loop in
+    writing-last _ _ _ _ (l .inv .0) (omega (arith, l .inv .1, p .loop-test .taken)) _ (turn-is _ _ (l .state) (w .choose .ensures)) (q .before .if1 .left) (q .step .result) (q .step .ensures)
     (sym (not-true _ (c .if2 .taken)) ∙ c .before .goes-on .ensures)
 
 loop-again : tie.Need-loop-again Inv-loop μ-loop
 loop-again c =
     let q = c .before .before .before in
     let w = q .before .before in
-    let l = w .before .before .loop in (
-      writing-more _ _ _ _ (l .inv .0) (omega (arith, l .inv .1, w .before .loop-test .taken)) _ (w .choose .ensures) (q .before .if1 .left) (q .step .result) (q .step .ensures)
+    let p = w .before .before .before .before .before .before in
+    let l = p .before .loop in (
+      writing-more _ _ _ _ (l .inv .0) (omega (arith, l .inv .1, p .loop-test .taken)) _ (turn-is _ _ (l .state) (w .choose .ensures)) (q .before .if1 .left) (q .step .result) (q .step .ensures)
           (sym (not-false _ (c .if2 .left)) ∙ c .before .goes-on .ensures),
       l .inv .1,
     )
@@ -85,7 +88,7 @@ write-spec =
     μ-loop
     (λ c κs. search needs)
     loop-holds
-    choose-requires
+    (λ c κs. search needs)
     same-length
     returns
     cast-room

@@ -4,7 +4,7 @@ use Prim.Native.Nat.{_-_}
 use borrow.Author.Needs.{needs}
 use Rattle.tables.specs.Limits.{barriers}
 use Rattle.replay.specs.Ending.{barrierSet}
-use Rattle.replay.proofs.Scans.{Scanned, scan-none, scan-more, scan-found, scan-end}
+use Rattle.tables.proofs.Scans.{Scanned, scan-none, scan-more, scan-found, scan-end}
 use Rattle.replay.proofs.state.Replay.lowest_set.Statement.{statement}
 use Rattle.replay.proofs.state.Replay.lowest_set.Tie as tie
 

@@ -1,0 +1,4 @@
+-- Read in this order: Fronts (a list mapped in place); Turns (each answer, from the tests); Unique (nothing else meets a contract).
+pub mod Fronts
+pub mod Turns
+pub mod Unique
