@@ -4,7 +4,7 @@ ghost use Prim.Native.Nat.{_≤_};
 ghost use lib.ListN.{length};
 ghost use Rattle.tables.specs.Limits.{mostThreads, barriers};
 ghost use Rattle.tables.specs.Lowest.{lowest};
-ghost use Rattle.tables.specs.Verdicts.{numbered};
+ghost use Rattle.verdicts.specs.Verdicts.{numbered};
 ghost use Rattle.replay.specs.Barrier.{isSet};
 ghost use Rattle.replay.specs.Step.{allowed};
 ghost use Rattle.replay.specs.Ending.{isBlocked, barrierSet, ended, Ends};
@@ -12,8 +12,8 @@ use crate::barrier::Phase;
 use crate::state::Replay;
 use crate::step::may_step;
 use tables::Table;
-use tables::Verdict;
 use tables::first_row;
+use verdicts::Verdict;
 
 fn is_set(phase: Phase) -> bool
     ensures { λ r. ⌜ r ≡ isSet phase ⌝ }
