@@ -12,12 +12,12 @@ use borrow.Author.Tests.{eq-eqb, le-ltb}
 use Rattle.tables.specs.Limits.{mostRows, mostThreads}
 use Rattle.tables.specs.Rows.{rows}
 use Rattle.tables.specs.Rules.{checked}
-use Rattle.tables.specs.Verdicts.{numbered}
+use Rattle.verdicts.specs.Verdicts.{numbered}
 use Rattle.tables.proofs.Rules.{passes-zero, checked-small}
 use Rattle.relation.specs.Table.{width, words}
 use Rattle.replay.specs.declared.writer.Written.{Written}
 use Rattle.replay.specs.Doors.{WritesSchedule}
-use Rattle.tables.specs.declared.verdict.Told.{Told}
+use Rattle.verdicts.specs.declared.Told.{Told}
 use Rattle.replay.specs.Writer.{schedule, unwritten, Filled}
 use Rattle.findings.specs.declared.finding.Finding.{Finding}
 use Rattle.review.specs.Agreement.{Reviewed}

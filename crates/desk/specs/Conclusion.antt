@@ -4,7 +4,7 @@ use mathlib.Core.List.{List, []}
 use Prim.Native.Nat.{ℕ, _*_}
 use lib.Dec.{eqb}
 use Rattle.tables.specs.Limits.{mostRows, mostThreads}
-use Rattle.tables.specs.declared.verdict.Told.{Told}
+use Rattle.verdicts.specs.declared.Told.{Told}
 use Rattle.relation.specs.Table.{words}
 use Rattle.notation.specs.Reading.{reading, rowNumbers, threadLengths}
 use Rattle.replay.specs.Writer.{schedule}

@@ -11,8 +11,8 @@ use lib.Seq.{length-take-le, drop-length, drop-drop, drop-cons, drop-append-add,
 use borrow.Author.Tests.{le-ltb}
 use borrow.Rule.Slice.PartMut.{midOf, postOf, putMid, post-is}
 use Rattle.tables.specs.Rows.{rows}
-use Rattle.tables.specs.Verdicts.{numbered}
-use Rattle.tables.specs.declared.verdict.Told.{Told}
+use Rattle.verdicts.specs.Verdicts.{numbered}
+use Rattle.verdicts.specs.declared.Told.{Told}
 use Rattle.tables.proofs.Rules.{kept}
 use Rattle.sheet.specs.declared.Pair.{Pair}
 use Rattle.sheet.specs.Sheet.{pair}

@@ -8,7 +8,7 @@ use native.Mathlib.Omega.{arith}
 use native.Mathlib.Decide.{ℕ-discrete, decLe}
 use lib.ListN.{length, getD}
 use Rattle.tables.specs.Rows.{rows}
-use Rattle.tables.specs.declared.verdict.Told.{Told}
+use Rattle.verdicts.specs.declared.Told.{Told}
 use Rattle.relation.specs.Table.{related}
 use Rattle.relation.proofs.Truth.{split}
 use Rattle.sheet.specs.declared.Pair.{Pair}

@@ -5,8 +5,8 @@ use mathlib.Core.List.{List, _++_}
 use Prim.Native.Nat.{ℕ}
 use native.Mathlib.Decide.{ℕ-discrete}
 use lib.ListN.{length, drop}
-use Rattle.tables.specs.declared.verdict.Verdict.{Verdict}
-use Rattle.tables.proofs.Verdicts.{numbered-one}
+use Rattle.verdicts.specs.declared.Verdict.{Verdict}
+use Rattle.verdicts.proofs.Verdicts.{numbered-one}
 use Rattle.relation.proofs.Rooms.{Words}
 use Rattle.sheet.specs.declared.Sheet.{Sheet}
 use Rattle.findings.specs.declared.finding.Finding.{Finding}

@@ -10,8 +10,8 @@ use lib.ListN.{length, getD, take, length-take}
 use lib.Seq.{getD-take}
 use Rattle.tables.specs.Rows.{rows}
 use Rattle.tables.specs.Rules.{Keeps}
-use Rattle.tables.specs.Verdicts.{tell}
-use Rattle.tables.specs.declared.verdict.Told.{Told}
+use Rattle.verdicts.specs.Verdicts.{tell}
+use Rattle.verdicts.specs.declared.Told.{Told}
 use Rattle.schedules.specs.Machine.{Program}
 use Rattle.schedules.specs.Order.{reach, Reuse, NoReuse}
 use Rattle.schedules.specs.Threads as threads

@@ -7,8 +7,8 @@ use Prim.Native.Nat.{ℕ, _+_, _*_, _≤_, _<_}
 use lib.Dec.{ltb}
 use lib.ListN.{length, getD, take, drop}
 use Rattle.tables.specs.Rows.{rows}
-use Rattle.tables.specs.Verdicts.{tell, numbered}
-use Rattle.tables.specs.declared.verdict.Told.{Told}
+use Rattle.verdicts.specs.Verdicts.{tell, numbered}
+use Rattle.verdicts.specs.declared.Told.{Told}
 use Rattle.sheet.specs.declared.Pair.{Pair}
 use Rattle.sheet.specs.Sheet.{pair, sheetOf, keptPairs}
 use Rattle.replay.specs.InOrder.{orElse}

@@ -16,7 +16,7 @@ use rooms::admits;
 use rooms::refuse;
 use sheet::Sheet;
 use sheet::kept;
-use tables::Verdict;
+use verdicts::Verdict;
 
 // What a review found, and how many entries of evidence were written.
 pub struct Evidence {

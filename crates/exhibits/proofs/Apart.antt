@@ -9,7 +9,7 @@ use borrow.Author.Tests.{le-ltb}
 use Rattle.tables.specs.Limits.{mostRows}
 use Rattle.tables.specs.Rows.{rows}
 use Rattle.tables.specs.Rules.{Keeps}
-use Rattle.tables.specs.declared.verdict.Told.{Told}
+use Rattle.verdicts.specs.declared.Told.{Told}
 use Rattle.tables.proofs.Rules.{kept}
 use Rattle.printing.specs.Putting.{PutsBytes}
 use Rattle.printing.proofs.Placing.{puts-on}

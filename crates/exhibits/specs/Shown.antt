@@ -9,7 +9,7 @@ use lib.ListN.{length}
 use Rattle.tables.specs.Lowest.{lowest}
 use Rattle.tables.specs.Rows.{rows}
 use Rattle.tables.specs.Rules.{Keeps}
-use Rattle.tables.specs.declared.verdict.Told.{Told}
+use Rattle.verdicts.specs.declared.Told.{Told}
 use Rattle.replay.specs.Ending.{judged}
 use Rattle.replay.specs.Replay.{played, generation}
 use Rattle.replay.specs.Schedules.{Precedes}

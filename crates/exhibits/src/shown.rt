@@ -8,7 +8,7 @@ ghost use Rattle.rooms.specs.Rooms.{numberAt};
 ghost use Rattle.exhibits.specs.Shown.{otherGeneration, shownBy, Ended, Offered};
 use replay::judge;
 use tables::Table;
-use tables::Told;
+use verdicts::Told;
 
 // One command before another; another generation than the one offered; or an end in 7, 8 or 9.
 pub(crate) enum Shown {

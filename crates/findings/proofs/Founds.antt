@@ -5,9 +5,9 @@ use mathlib.Core.List.{List, []}
 use Prim.Native.Nat.{ℕ}
 use lib.ListN.{length}
 use borrow.Author.Tests.{eq-eqb, ne-eqb}
-use Rattle.tables.specs.Verdicts.{numbered}
-use Rattle.tables.specs.declared.verdict.Told.{Told}
-use Rattle.tables.specs.declared.verdict.Verdict.{Verdict}
+use Rattle.verdicts.specs.Verdicts.{numbered}
+use Rattle.verdicts.specs.declared.Told.{Told}
+use Rattle.verdicts.specs.declared.Verdict.{Verdict}
 use Rattle.replay.proofs.Refusals.{or-first, or-second}
 use Rattle.sheet.specs.Sheet.{sheetOf}
 use Rattle.findings.specs.declared.finding.Finding.{Finding}

@@ -8,7 +8,7 @@ use lib.ListN.{length, getD}
 use Rattle.tables.specs.Rows.{rows}
 use Rattle.tables.specs.Rules.{Keeps}
 use Rattle.tables.specs.Heads.{Headed}
-use Rattle.tables.specs.Verdicts.{tell}
+use Rattle.verdicts.specs.Verdicts.{tell}
 use Rattle.relation.specs.Table.{related}
 use Rattle.rooms.specs.Rooms.{numberAt}
 use Rattle.sheet.specs.declared.Pair.{Pair}

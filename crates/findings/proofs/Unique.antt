@@ -2,8 +2,8 @@
 use mathlib.Core.Path.{_≡_, sym, ap₂, _∙_}
 use mathlib.Core.List.{List, []}
 use Prim.Native.Nat.{ℕ}
-use Rattle.tables.specs.declared.verdict.Verdict.{Verdict}
-use Rattle.tables.proofs.Verdicts.{numbered-one}
+use Rattle.verdicts.specs.declared.Verdict.{Verdict}
+use Rattle.verdicts.proofs.Verdicts.{numbered-one}
 use Rattle.sheet.specs.declared.Sheet.{Sheet}
 use Rattle.sheet.specs.Sheet.{sheetOf}
 use Rattle.findings.specs.declared.finding.Finding.{Finding}

@@ -6,8 +6,8 @@ use Prim.Native.Nat.{ℕ}
 use lib.Dec.{eqb}
 use lib.ListN.{length}
 use Rattle.tables.specs.Rows.{rows}
-use Rattle.tables.specs.Verdicts.{tell, numbered}
-use Rattle.tables.specs.declared.verdict.Told.{Told}
+use Rattle.verdicts.specs.Verdicts.{tell, numbered}
+use Rattle.verdicts.specs.declared.Told.{Told}
 use Rattle.relation.specs.Table.{related}
 use Rattle.replay.specs.InOrder.{orElse}
 use Rattle.sheet.specs.declared.Pair.{Pair}

@@ -16,8 +16,8 @@ use rooms::admits;
 use rooms::refuse;
 use sheet::Sheet;
 use tables::Table;
-use tables::Verdict;
 use tables::put_heads;
+use verdicts::Verdict;
 
 pub struct Finding {
     pub verdict: Verdict,

@@ -9,7 +9,7 @@ use lib.ListN.{length, length-append, length-map}
 use Rattle.tables.specs.Limits.{mostRows, mostThreads}
 use Rattle.tables.specs.Rows.{rows, total}
 use Rattle.tables.specs.Rules.{firstBad, checked}
-use Rattle.tables.specs.declared.verdict.Told.{Told}
+use Rattle.verdicts.specs.declared.Told.{Told}
 use Rattle.tables.proofs.Rules.{refuses-row, refuses-none}
 use Rattle.spelling.specs.Machine.{flat}
 use Rattle.grammar.specs.Grammar as G

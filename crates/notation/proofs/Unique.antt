@@ -4,7 +4,7 @@ use mathlib.Core.List.{List}
 use Prim.Native.Nat.{ℕ}
 use lib.ListN.{length}
 use denote.Ref.{RefT, now}
-use Rattle.tables.specs.declared.verdict.Told.{Told}
+use Rattle.verdicts.specs.declared.Told.{Told}
 use Rattle.reader.specs.Places.{ahead}
 use Rattle.notation.specs.declared.reading.Reading.{Reading}
 use Rattle.notation.specs.Reading.{answered, restAt, restOf}

@@ -6,8 +6,8 @@ use Prim.Native.Nat.{ℕ, _/_, _≤_, min}
 use lib.Dec.{ltb}
 use lib.ListN.{length, getD, drop}
 use Rattle.tables.specs.Limits.{mostRows, mostThreads}
-use Rattle.tables.specs.Verdicts.{tell}
-use Rattle.tables.specs.declared.verdict.Told.{Told}
+use Rattle.verdicts.specs.Verdicts.{tell}
+use Rattle.verdicts.specs.declared.Told.{Told}
 use Rattle.spelling.specs.Machine.{Outcome, found, flat}
 use Rattle.spelling.specs.Over.{over}
 use Rattle.grammar.specs.declared.automaton.State.the-variants.{Word}

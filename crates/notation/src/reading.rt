@@ -9,7 +9,7 @@ use crate::scan::judge;
 use crate::scan::write;
 use reader::rest_from;
 use tables::Table;
-use tables::Told;
+use verdicts::Told;
 
 pub struct Text;
 

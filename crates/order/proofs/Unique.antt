@@ -4,8 +4,8 @@ use mathlib.Core.Logic.{by-cases, _≢_}
 use mathlib.Core.List.{List}
 use Prim.Native.Nat.{ℕ}
 use native.Mathlib.Decide.{ℕ-discrete}
-use Rattle.tables.specs.Verdicts.{numbered}
-use Rattle.tables.specs.declared.verdict.Verdict.{Verdict}
+use Rattle.verdicts.specs.Verdicts.{numbered}
+use Rattle.verdicts.specs.declared.Verdict.{Verdict}
 use Rattle.relation.proofs.Rooms.{Words, holds-one}
 use Rattle.rooms.proofs.Unique.{refuse-one}
 use Rattle.order.specs.Orders.{Orders}

@@ -4,8 +4,8 @@ use mathlib.Core.List.{List}
 use mathlib.Core.Logic.{_≢_}
 use Prim.Native.Nat.{ℕ}
 use lib.ListN.{length}
-use Rattle.tables.specs.Verdicts.{numbered}
-use Rattle.tables.specs.declared.verdict.Verdict.{Verdict}
+use Rattle.verdicts.specs.Verdicts.{numbered}
+use Rattle.verdicts.specs.declared.Verdict.{Verdict}
 use Rattle.rooms.specs.Refusals.{refused}
 use Rattle.rooms.specs.Rooms.{numberAt}
 use Rattle.order.specs.Order.{Reached}

@@ -10,8 +10,8 @@ use rooms::admits;
 use rooms::refuse;
 use sweeps::put_reach;
 use tables::Table;
-use tables::Verdict;
 use tables::put_heads;
+use verdicts::Verdict;
 
 // The rooms suffice: pairs are listed, and what they reach is happens-before. A seat that nobody takes holds no row's number.
 fn put_reached(commands: &[u32], lengths: &[u32], generations: &[u32], relation: &mut [u32])

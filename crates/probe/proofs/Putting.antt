@@ -6,7 +6,7 @@ use native.Mathlib.Numerals.{add-one}
 use native.Mathlib.Omega.{arith}
 use lib.ListN.{length, getD, set, take, drop, length-append, take-append-drop, drop-of-length-le}
 use lib.Seq.{drop-cons, drop-drop, length-take-le}
-use Rattle.tables.specs.declared.verdict.Told.{Told}
+use Rattle.verdicts.specs.declared.Told.{Told}
 use Rattle.spelling.specs.Over.{over}
 use Rattle.spelling.proofs.Filling.{Filling, filling-none, filling-left, filling-more, filling-done}
 use Rattle.sheet.specs.declared.Pair.{Pair}

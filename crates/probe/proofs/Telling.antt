@@ -4,8 +4,8 @@ use mathlib.Core.List.{List, _++_}
 use Prim.Native.Nat.{ℕ, _-_, _≤_, _<_, min}
 use native.Mathlib.Omega.{arith}
 use lib.ListN.{length, set, take, length-drop}
-use Rattle.tables.specs.Verdicts.{numbered}
-use Rattle.tables.specs.declared.verdict.Told.{Told}
+use Rattle.verdicts.specs.Verdicts.{numbered}
+use Rattle.verdicts.specs.declared.Told.{Told}
 use Rattle.spelling.specs.Over.{over}
 use Rattle.notation.specs.Reading.{answered, restAt, restOf}
 use Rattle.notation.specs.Promise.{Read}

@@ -6,7 +6,7 @@ use Prim.Native.Nat.{ℕ, _<_}
 use native.Mathlib.Decide.{decLt}
 use native.Mathlib.Omega.{arith}
 use lib.ListN.{length}
-use Rattle.tables.specs.Verdicts.{numbered}
+use Rattle.verdicts.specs.Verdicts.{numbered}
 use Rattle.relation.specs.Chains.{Chain}
 use Rattle.relation.specs.Table.{Related}
 use Rattle.relation.proofs.Rooms.{Words, writes-one}

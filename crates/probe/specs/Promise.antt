@@ -5,7 +5,7 @@ use mathlib.Core.List.{List}
 use Prim.Native.Nat.{ℕ, _≤_, _<_}
 use lib.Dec.{leb}
 use lib.ListN.{length}
-use Rattle.tables.specs.Verdicts.{numbered}
+use Rattle.verdicts.specs.Verdicts.{numbered}
 use Rattle.relation.specs.Chains.{Chain}
 use Rattle.relation.specs.Table as table
 use Rattle.relation.specs.Table.{words, Related}

@@ -6,7 +6,7 @@ ghost use lib.ListN.{length, take};
 ghost use Rattle.spelling.specs.Over.{over};
 ghost use Rattle.probe.specs.Numbers.{answerRoom, largest, toldNumbers, pairNumbers, Counted, PairsCounted};
 use sheet::Sheet;
-use tables::Told;
+use verdicts::Told;
 
 pub(crate) struct Answer;
 

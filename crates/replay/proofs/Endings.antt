@@ -7,7 +7,7 @@ use lib.ListN.{length}
 use borrow.Author.Tests.{lt-ltb, le-ltb}
 use Rattle.tables.specs.Limits.{mostThreads, barriers}
 use Rattle.tables.specs.Rows.{firstRow}
-use Rattle.tables.specs.Verdicts.{tell}
+use Rattle.verdicts.specs.Verdicts.{tell}
 use Rattle.tables.proofs.Rows.{first-within}
 use Rattle.replay.specs.declared.state.Replay.{Replay}
 use Rattle.replay.specs.State.{ranSoFar}

@@ -7,11 +7,11 @@ use native.Mathlib.Decide.{ℕ-discrete}
 use borrow.Author.Tests.{eq-eqb, ne-eqb, lt-ltb, le-ltb}
 use Rattle.tables.specs.Rows.{rows}
 use Rattle.tables.specs.Rules.{Keeps, checked}
-use Rattle.tables.specs.Verdicts.{tell, numbered}
-use Rattle.tables.specs.declared.verdict.Told.{Told}
-use Rattle.tables.specs.declared.verdict.Verdict.{Verdict}
+use Rattle.verdicts.specs.Verdicts.{tell, numbered}
+use Rattle.verdicts.specs.declared.Told.{Told}
+use Rattle.verdicts.specs.declared.Verdict.{Verdict}
 use Rattle.tables.proofs.Rules.{passes, passes-zero}
-use Rattle.tables.proofs.Verdicts.{zero-told}
+use Rattle.verdicts.proofs.Verdicts.{zero-told}
 use Rattle.replay.specs.InOrder.{orElse}
 use Rattle.replay.specs.Writer.{shortRoom, unwritten}
 

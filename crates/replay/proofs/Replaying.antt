@@ -9,7 +9,7 @@ use lib.Seq.{drop-cons, drop-nil}
 use Rattle.tables.specs.Limits.{mostRows}
 use Rattle.tables.specs.Rows.{rows}
 use Rattle.tables.specs.Rules.{Keeps}
-use Rattle.tables.specs.declared.verdict.Verdict.the-variants as verdict
+use Rattle.verdicts.specs.declared.Verdict.the-variants as verdict
 use Rattle.replay.specs.declared.state.Replay.{Replay}
 use Rattle.replay.specs.declared.step.How.{How}
 use Rattle.replay.specs.declared.step.How.the-variants.{Mismatch, Ran}

@@ -5,9 +5,9 @@ use mathlib.Core.List.{List, _++_}
 use Prim.Native.Nat.{ℕ}
 use native.Mathlib.Decide.{ℕ-discrete}
 use lib.ListN.{drop}
-use Rattle.tables.specs.Verdicts.{numbered}
-use Rattle.tables.specs.declared.verdict.Verdict.{Verdict}
-use Rattle.tables.proofs.Verdicts.{numbered-one}
+use Rattle.verdicts.specs.Verdicts.{numbered}
+use Rattle.verdicts.specs.declared.Verdict.{Verdict}
+use Rattle.verdicts.proofs.Verdicts.{numbered-one}
 use Rattle.replay.specs.declared.offered.Judged.{Judged}
 use Rattle.replay.specs.declared.writer.Written.{Written}
 use Rattle.replay.specs.Doors.{Replays, WritesBy}

@@ -12,8 +12,8 @@ use borrow.Author.Tests.{le-ltb}
 use Rattle.tables.specs.Limits.{mostRows}
 use Rattle.tables.specs.Rows.{rows}
 use Rattle.tables.specs.Rules.{Keeps}
-use Rattle.tables.specs.Verdicts.{numbered}
-use Rattle.tables.specs.declared.verdict.Told.{Told}
+use Rattle.verdicts.specs.Verdicts.{numbered}
+use Rattle.verdicts.specs.declared.Told.{Told}
 use Rattle.relation.specs.Table.{words, inside, related}
 use Rattle.relation.proofs.Truth.{clashing, both, isnt}
 use Rattle.turns.specs.Turns.{goesFirst}

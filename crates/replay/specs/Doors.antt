@@ -8,7 +8,7 @@ use lib.ListN.{length, replicate}
 use Rattle.tables.specs.Limits.{mostRows}
 use Rattle.tables.specs.Rows.{rows}
 use Rattle.tables.specs.Rules.{checked}
-use Rattle.tables.specs.Verdicts.{numbered}
+use Rattle.verdicts.specs.Verdicts.{numbered}
 use Rattle.relation.specs.Table.{related}
 use Rattle.replay.specs.declared.offered.Judged.{Judged}
 use Rattle.replay.specs.declared.writer.Written.{Written}

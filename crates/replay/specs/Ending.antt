@@ -8,9 +8,9 @@ use lib.ListN.{length}
 use Rattle.tables.specs.Limits.{mostRows, mostThreads, barriers}
 use Rattle.tables.specs.Lowest.{lowest}
 use Rattle.tables.specs.Rows.{total}
-use Rattle.tables.specs.Verdicts.{tell, numbered}
-use Rattle.tables.specs.declared.verdict.Told.{Told}
-use Rattle.tables.specs.declared.verdict.Verdict.the-variants as verdict
+use Rattle.verdicts.specs.Verdicts.{tell, numbered}
+use Rattle.verdicts.specs.declared.Told.{Told}
+use Rattle.verdicts.specs.declared.Verdict.the-variants as verdict
 use Rattle.turns.specs.Turns.{held}
 use Rattle.replay.specs.declared.state.Replay.{Replay}
 use Rattle.replay.specs.declared.replay.Replayed.{Replayed}

@@ -1,7 +1,7 @@
 -- Verdicts in the order tested.
 use mathlib.Core.Bool.{cond}
 use lib.Dec.{eqb}
-use Rattle.tables.specs.declared.verdict.Told.{Told}
+use Rattle.verdicts.specs.declared.Told.{Told}
 
 -- the first verdict unless its number is 0, and then the second
 abbrev pub orElse : Told → Told → Told

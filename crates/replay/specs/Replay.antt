@@ -3,8 +3,8 @@ use mathlib.Core.List.{List, [], _∷_}
 use Prim.Native.Nat.{ℕ, _+_}
 use lib.ListN.{getD, set, replicate}
 use Rattle.tables.specs.Limits.{mostRows}
-use Rattle.tables.specs.declared.verdict.Verdict.{Verdict}
-use Rattle.tables.specs.declared.verdict.Verdict.the-variants as verdict
+use Rattle.verdicts.specs.declared.Verdict.{Verdict}
+use Rattle.verdicts.specs.declared.Verdict.the-variants as verdict
 use Rattle.replay.specs.declared.state.Replay.{Replay}
 use Rattle.replay.specs.declared.step.How.the-variants.{Mismatch, Ran}
 use Rattle.replay.specs.declared.step.Did.{Did}

@@ -8,7 +8,7 @@ use lib.Dec.{ltb}
 use lib.ListN.{length, take}
 use Rattle.tables.specs.Limits.{barriers}
 use Rattle.tables.specs.Rows.{rows, threadOf}
-use Rattle.tables.specs.declared.verdict.Verdict.the-variants as verdict
+use Rattle.verdicts.specs.declared.Verdict.the-variants as verdict
 use Rattle.replay.specs.declared.state.Replay.{Replay}
 use Rattle.replay.specs.Step.{allowed, command}
 use Rattle.replay.specs.Ending.{isBlocked, barrierSet}

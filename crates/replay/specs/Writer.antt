@@ -9,8 +9,8 @@ use lib.ListN.{length, drop}
 use Rattle.tables.specs.Lowest.{lowest}
 use Rattle.tables.specs.Rows.{rows}
 use Rattle.tables.specs.Rules.{Keeps, checked}
-use Rattle.tables.specs.Verdicts.{tell}
-use Rattle.tables.specs.declared.verdict.Told.{Told}
+use Rattle.verdicts.specs.Verdicts.{tell}
+use Rattle.verdicts.specs.declared.Told.{Told}
 use Rattle.turns.specs.Turns.{goesFirst, lowestOr}
 use Rattle.replay.specs.declared.state.Replay.{Replay}
 use Rattle.replay.specs.declared.step.How.the-variants.{Mismatch, Ran}

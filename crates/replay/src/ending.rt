@@ -3,16 +3,16 @@ ghost use mathlib.Core.Path.{_≡_};
 ghost use Prim.Native.Nat.{_+_, _-_, _≤_};
 ghost use Rattle.tables.specs.Limits.{mostRows, barriers};
 ghost use Rattle.tables.specs.Lowest.{lowest};
-ghost use Rattle.tables.specs.Verdicts.{numbered};
+ghost use Rattle.verdicts.specs.Verdicts.{numbered};
 ghost use Rattle.replay.specs.Barrier.{isSet};
 ghost use Rattle.replay.specs.Ending.{barrierSet, ended, Ends};
 use crate::barrier::Phase;
 use crate::state::Replay;
 use tables::Table;
-use tables::Verdict;
 use tables::first_row;
 use turns::lowest_allowed;
 use turns::lowest_blocked;
+use verdicts::Verdict;
 
 fn is_set(phase: Phase) -> bool
     ensures { λ r. ⌜ r ≡ isSet phase ⌝ }

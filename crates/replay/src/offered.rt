@@ -1,13 +1,13 @@
 // The judge of an offered schedule.
 ghost use mathlib.Core.Path.{_≡_};
-ghost use Rattle.tables.specs.Verdicts.{numbered};
+ghost use Rattle.verdicts.specs.Verdicts.{numbered};
 ghost use Rattle.replay.specs.Ending.{judged, Plays};
 ghost use Rattle.replay.specs.Doors.{Replays};
 use crate::replay::Replayed;
 use crate::replay::replay;
 use tables::Table;
-use tables::Verdict;
 use tables::check_tables;
+use verdicts::Verdict;
 
 // A verdict, and the generation of each command that ran.
 pub struct Judged {

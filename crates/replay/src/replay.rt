@@ -6,7 +6,7 @@ use crate::state::Replay;
 use crate::step::Did;
 use crate::step::How;
 use tables::Table;
-use tables::Verdict;
+use verdicts::Verdict;
 
 // Where a replay ended: the state, each command's generation, the steps that ran, and 5, 7 or, if all ran, 0.
 pub(crate) struct Replayed {

@@ -11,9 +11,9 @@ use crate::step::Did;
 use crate::step::How;
 use relation::related;
 use tables::Table;
-use tables::Verdict;
 use tables::check_tables;
 use turns::choose;
+use verdicts::Verdict;
 
 // 1 to 4, or 0 and the length of the schedule that was written.
 pub struct Written {

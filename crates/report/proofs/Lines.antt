@@ -6,7 +6,7 @@ use native.Mathlib.Numerals.{add-one}
 use native.Mathlib.Omega.{arith}
 use lib.ListN.{length, getD, take, length-append}
 use lib.Seq.{take-suc}
-use Rattle.tables.specs.declared.verdict.Told.{Told}
+use Rattle.verdicts.specs.declared.Told.{Told}
 use Rattle.sheet.specs.declared.Pair.{Pair}
 use Rattle.report.specs.declared.Conclusion.{Conclusion}
 use Rattle.printing.specs.Figures.{figures}

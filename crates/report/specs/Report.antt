@@ -1,7 +1,7 @@
 -- The report: `verdict V place P Q`, `total T`, then one line a kept pair, each line closed by a newline.
 use mathlib.Core.List.{List, [], _∷_, _++_}
 use Prim.Native.Nat.{ℕ}
-use Rattle.tables.specs.declared.verdict.Told.{Told}
+use Rattle.verdicts.specs.declared.Told.{Told}
 use Rattle.sheet.specs.declared.Pair.{Pair}
 use Rattle.sheet.specs.Sheet.{keptPairs}
 use Rattle.report.specs.declared.Conclusion.{Conclusion}

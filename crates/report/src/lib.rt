@@ -6,7 +6,7 @@ use printing::put;
 use printing::put_number;
 use sheet::Sheet;
 use sheet::kept;
-use tables::Told;
+use verdicts::Told;
 
 // A verdict or a refusal with its place, and the fault sheet.
 pub struct Conclusion {

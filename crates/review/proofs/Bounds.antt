@@ -13,9 +13,9 @@ use borrow.Author.Tests.{le-ltb}
 use Rattle.tables.specs.Limits.{mostRows}
 use Rattle.tables.specs.Rows.{rows}
 use Rattle.tables.specs.Rules.{Keeps, checked}
-use Rattle.tables.specs.Verdicts.{tell, numbered}
-use Rattle.tables.specs.declared.verdict.Told.{Told}
-use Rattle.tables.specs.declared.verdict.Verdict.{Verdict}
+use Rattle.verdicts.specs.Verdicts.{tell, numbered}
+use Rattle.verdicts.specs.declared.Told.{Told}
+use Rattle.verdicts.specs.declared.Verdict.{Verdict}
 use Rattle.tables.proofs.Rules.{passes-zero}
 use Rattle.relation.specs.Table.{width, words}
 use Rattle.relation.proofs.Truth.{clashing, split}

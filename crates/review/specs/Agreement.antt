@@ -6,7 +6,7 @@ use mathlib.Core.Logic.{_⊎_, _↔_, _≢_}
 use Prim.Native.Nat.{ℕ, _≤_, _<_}
 use lib.ListN.{length, getD}
 use Rattle.tables.specs.Rows.{rows}
-use Rattle.tables.specs.Verdicts.{tell, numbered}
+use Rattle.verdicts.specs.Verdicts.{tell, numbered}
 use Rattle.relation.specs.Table.{words}
 use Rattle.findings.specs.declared.finding.Finding.{Finding}
 use Rattle.replay.specs.Replay.{played}

@@ -5,8 +5,8 @@ use Prim.Native.Nat.{ℕ, zero, suc, _+_, _*_, _^_}
 use lib.Dec.{eqb}
 use lib.ListN.{take}
 use Rattle.tables.specs.Rows.{rows}
-use Rattle.tables.specs.Verdicts.{tell}
-use Rattle.tables.specs.declared.verdict.Told.{Told}
+use Rattle.verdicts.specs.Verdicts.{tell}
+use Rattle.verdicts.specs.declared.Told.{Told}
 use Rattle.relation.specs.Table.{words}
 use Rattle.schedules.specs.Tally.{bit}
 use Rattle.sheet.specs.declared.Pair.{Pair}

@@ -10,9 +10,9 @@ use lib.Dec.{ltb}
 use borrow.Author.Tests.{eq-eqb, ne-eqb, lt-ltb, le-ltb, ltb-false}
 use Rattle.tables.specs.Rows.{rows}
 use Rattle.tables.specs.Rules.{Keeps, checked}
-use Rattle.tables.specs.Verdicts.{tell, numbered}
-use Rattle.tables.specs.declared.verdict.Told.{Told}
-use Rattle.tables.specs.declared.verdict.Verdict.{Verdict}
+use Rattle.verdicts.specs.Verdicts.{tell, numbered}
+use Rattle.verdicts.specs.declared.Told.{Told}
+use Rattle.verdicts.specs.declared.Verdict.{Verdict}
 use Rattle.tables.proofs.Rules.{passes-zero, checked-small}
 use Rattle.relation.specs.Table.{words}
 use Rattle.replay.proofs.Refusals.{check-first, check-second}

@@ -4,9 +4,9 @@ use mathlib.Core.Bool.{Bool}
 use mathlib.Core.List.{List}
 use Prim.Native.Nat.{ℕ}
 use lib.Dec.{eqb}
-use Rattle.tables.specs.Verdicts.{numbered}
-use Rattle.tables.specs.declared.verdict.Verdict.{Verdict}
-use Rattle.tables.proofs.Verdicts.{numbered-one}
+use Rattle.verdicts.specs.Verdicts.{numbered}
+use Rattle.verdicts.specs.declared.Verdict.{Verdict}
+use Rattle.verdicts.proofs.Verdicts.{numbered-one}
 use Rattle.rooms.specs.Refusals.{refused}
 
 pub refuse-one : (commands lengths : List ℕ) (relation generations : ℕ) (a b : Verdict) → numbered a ≡ refused commands lengths relation generations

@@ -5,8 +5,8 @@ use Prim.Native.Nat.{ℕ}
 use lib.Dec.{ltb}
 use Rattle.tables.specs.Rows.{rows}
 use Rattle.tables.specs.Rules.{checked}
-use Rattle.tables.specs.Verdicts.{tell}
-use Rattle.tables.specs.declared.verdict.Told.{Told}
+use Rattle.verdicts.specs.Verdicts.{tell}
+use Rattle.verdicts.specs.declared.Told.{Told}
 use Rattle.relation.specs.Table.{words}
 use Rattle.replay.specs.InOrder.{orElse}
 

@@ -1,11 +1,11 @@
 // Refusals 1 to 4, before a room is touched.
 ghost use mathlib.Core.Path.{_≡_};
 ghost use lib.Dec.{eqb};
-ghost use Rattle.tables.specs.Verdicts.{numbered};
+ghost use Rattle.verdicts.specs.Verdicts.{numbered};
 ghost use Rattle.rooms.specs.Refusals.{refused};
 use relation::table_words;
-use tables::Verdict;
 use tables::check_tables;
+use verdicts::Verdict;
 
 // 1 to 4, or 0, of tables and the lengths of the two rooms.
 pub fn refuse(commands: &[u32], lengths: &[u32], relation: usize, generations: usize) -> Verdict

@@ -4,7 +4,7 @@ use native.Mathlib.Omega.{arith}
 use borrow.Author.Needs.{needs}
 use borrow.Author.Tests.{eqb-true, eqb-false, not-true, not-false}
 use Rattle.tables.specs.Limits.{mostRows}
-use Rattle.tables.specs.declared.verdict.Told.{Told}
+use Rattle.verdicts.specs.declared.Told.{Told}
 use Rattle.evidence.proofs.Doors.{evidenced-refused, evidenced-short, evidenced, few-rows}
 use Rattle.evidence.proofs.door.review_evidence.Statement.{statement}
 use Rattle.evidence.proofs.door.review_evidence.Tie as tie

@@ -1,7 +1,7 @@
 -- `put_order` meets its contract: refused before the room is touched, or what is listed reaches as far as happens-before. Assumes nothing.
 use mathlib.Core.Path.{refl, sym, ap, _∙_}
 use borrow.Author.Tests.{eqb-true, eqb-false, not-true, not-false}
-use Rattle.tables.specs.declared.verdict.Told.{Told}
+use Rattle.verdicts.specs.declared.Told.{Told}
 use Rattle.rooms.proofs.Refusals.{admitted, refused-none}
 use borrow.Author.Needs.{needs}
 use Rattle.order.proofs.order.put_order.Statement.{statement}

@@ -1,7 +1,7 @@
 -- `conclude` meets its contract: 5 and 7 stand before 6, 8 and 9. Assumes nothing.
 use mathlib.Core.Path.{sym, _∙_}
 use borrow.Author.Needs.{needs}
-use Rattle.tables.proofs.Verdicts.{zero-clean}
+use Rattle.verdicts.proofs.Verdicts.{zero-clean}
 use Rattle.replay.specs.Ending.{ended, judged}
 use Rattle.replay.proofs.Refusals.{number-is, said-first, said-second}
 use Rattle.replay.proofs.offered.conclude.Statement.{statement}

@@ -1,0 +1,8 @@
+-- Two answers that meet the contract of the public function for the same verdict are equal. Assumes nothing.
+use mathlib.Core.Path.{_≡_, sym, _∙_}
+use Rattle.verdicts.specs.declared.Verdict.{Verdict}
+use Rattle.verdicts.specs.declared.Told.{Told}
+use Rattle.verdicts.specs.Verdicts.{numbered}
+
+pub number-one : (v : Verdict) {r s : Told} → r ≡ numbered v → s ≡ numbered v → r ≡ s
+number-one v e f = e ∙ sym f

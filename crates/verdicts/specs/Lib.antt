@@ -1,0 +1,2 @@
+-- Read: Verdicts (their numbers and places).
+pub mod Verdicts
