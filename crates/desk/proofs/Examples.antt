@@ -16,6 +16,7 @@ use Rattle.spelling.specs.Machine.{flat, found}
 use Rattle.grammar.specs.Tokens.{wordOf, markOf, pieceOf}
 use Rattle.grammar.specs.Automaton.{tokenMoves}
 use Rattle.notation.specs.Reading.{mostBytes, judgedOf, tooMany, reading}
+use Rattle.turns.specs.Turns.{mayStep}
 use Rattle.replay.specs.State.{start}
 use Rattle.replay.specs.Step.{allowed, registering, running, stepped}
 use Rattle.replay.specs.Replay.{playing, played}
@@ -34,7 +35,7 @@ pub every : reported reports ≡ true
 unfolding reports reported
     mostRows mostThreads addresses barriers mostCount total firstRow threadOf lowest rowKeeps firstBad checked rounds width edge reach
     classOf run sameBytes mostNumber decimal numeralOf cutsN flat found wordOf markOf pieceOf tokenMoves mostBytes judgedOf tooMany reading
-    start allowed registering running stepped playing played ended judged stepping scheduleBy schedule mostKept firsts sheetOf
+    start mayStep allowed registering running stepped playing played ended judged stepping scheduleBy schedule mostKept firsts sheetOf
     succeeds reuse conflict race alongRow allRows faults refused verdictOf
     figuresTo figures ofTables ofText twoNumbers verdictLine totalLine pairLines report
 every = refl

@@ -5,6 +5,7 @@ use Rattle.tables.specs.Limits.{mostRows, mostThreads, addresses, barriers, mos
 use Rattle.tables.specs.Rows.{total, firstRow, threadOf}
 use Rattle.tables.specs.Lowest.{lowest}
 use Rattle.tables.specs.Rules.{rowKeeps, firstBad, checked}
+use Rattle.turns.specs.Turns.{mayStep}
 use Rattle.relation.specs.Chains.{rounds}
 use Rattle.relation.specs.Table.{width}
 use Rattle.schedules.specs.Order.{edge, reach}
@@ -21,6 +22,6 @@ use Rattle.review.specs.Examples.{examples, all, same, word, below, hold
 pub every : all holds examples ≡ true
 unfolding all holds examples same word below
     mostRows mostThreads addresses barriers mostCount total firstRow threadOf lowest rowKeeps firstBad checked
-    rounds width edge reach start allowed registering running stepped playing played ended sheetOf
+    rounds width edge reach start mayStep allowed registering running stepped playing played ended sheetOf
     succeeds reuse conflict race alongRow allRows faults refused judged verdictOf
 every = refl
