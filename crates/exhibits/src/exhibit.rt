@@ -7,15 +7,15 @@ ghost use Rattle.rooms.specs.Rooms.{numberAt, Roomy};
 ghost use Rattle.replay.specs.Writer.{apartSchedule, FilledBy, Fits};
 ghost use Rattle.printing.specs.Putting.{PutsBytes};
 ghost use Rattle.exhibits.specs.Exhibits.{reuseExhibit, orderExhibit, raceExhibits, exhibited};
-use crate::line::put_shown;
-use crate::line::put_steps;
-use crate::shown::Shown;
 use crate::shown::shown_by;
 use replay::write_apart;
 use rooms::admits;
 use sheet::Sheet;
 use sheet::kept;
 use tables::Table;
+use wording::put_first;
+use wording::put_shown;
+use wording::put_steps;
 
 // The schedule in which d and what c does not reach go first, from the front of a room; answers its length.
 fn fill_apart(
@@ -48,7 +48,7 @@ fn put_way(
 {
     let mut schedule = [0u32; Table::ROWS];
     let steps = fill_apart(commands, lengths, relation, y, x, &mut schedule);
-    let next = put_shown(room, at, Shown::First(x, y));
+    let next = put_first(room, at, x, y);
     put_steps(room, next, &schedule[..steps])
 }
 
