@@ -27,7 +27,8 @@ fn fill_apart(
     room: &mut [u32],
 ) -> usize
     requires { ⌜ Fits (now commands) (now lengths) (now room) ⌝ }
-    ensures { λ r. ⌜ FilledBy (apartSchedule (now (commands .entry)) (now (lengths .entry)) (related (now (relation .entry)) (rows (now (commands .entry)))) c d) (now (room .entry)) (now (room .exit)) r ⌝ }
+    ensures { λ r. ⌜ FilledBy (apartSchedule (now (commands .entry)) (now (lengths .entry)) (related (now (relation .entry)) (rows (now (commands .entry)))) c d)
+        (now (room .entry)) (now (room .exit)) r ⌝ }
 {
     let written = write_apart(commands, lengths, relation, c, d, room);
     written.length
@@ -44,7 +45,8 @@ fn put_way(
     at: usize,
 ) -> usize
     requires { ⌜ Keeps (now commands) (now lengths) ⌝ }
-    ensures { λ r. ⌜ PutsBytes (now (room .entry)) (now (room .exit)) at (orderExhibit (now (commands .entry)) (now (lengths .entry)) (related (now (relation .entry)) (rows (now (commands .entry)))) x y) r ⌝ }
+    ensures { λ r. ⌜ PutsBytes (now (room .entry)) (now (room .exit)) at
+        (orderExhibit (now (commands .entry)) (now (lengths .entry)) (related (now (relation .entry)) (rows (now (commands .entry)))) x y) r ⌝ }
 {
     let mut schedule = [0u32; Table::ROWS];
     let steps = fill_apart(commands, lengths, relation, y, x, &mut schedule);
@@ -64,7 +66,9 @@ fn put_reuse(
     at: usize,
 ) -> usize
     requires { ⌜ Roomy (now commands) (now lengths) (now generations) (now relation) ⌝ }
-    ensures { λ r. ⌜ PutsBytes (now (room .entry)) (now (room .exit)) at (reuseExhibit (now (commands .entry)) (now (lengths .entry)) (related (now (relation .entry)) (rows (now (commands .entry)))) (numberAt (now (generations .entry))) (pair c d)) r ⌝ }
+    ensures { λ r. ⌜ PutsBytes (now (room .entry)) (now (room .exit)) at
+        (reuseExhibit (now (commands .entry)) (now (lengths .entry)) (related (now (relation .entry)) (rows (now (commands .entry))))
+        (numberAt (now (generations .entry))) (pair c d)) r ⌝ }
 {
     let mut schedule = [0u32; Table::ROWS];
     let steps = fill_apart(commands, lengths, relation, c, d, &mut schedule);
@@ -83,7 +87,8 @@ fn put_races(
     at: usize,
 ) -> usize
     requires { ⌜ Keeps (now commands) (now lengths) ⌝ }
-    ensures { λ r. ⌜ PutsBytes (now (room .entry)) (now (room .exit)) at (raceExhibits (now (commands .entry)) (now (lengths .entry)) (related (now (relation .entry)) (rows (now (commands .entry)))) (keptPairs sheet)) r ⌝ }
+    ensures { λ r. ⌜ PutsBytes (now (room .entry)) (now (room .exit)) at
+        (raceExhibits (now (commands .entry)) (now (lengths .entry)) (related (now (relation .entry)) (rows (now (commands .entry)))) (keptPairs sheet)) r ⌝ }
 {
     let n = kept(sheet.total);
     let mut next = at;
@@ -110,7 +115,8 @@ pub fn put_exhibits(
     room: &mut [u8],
     at: usize,
 ) -> usize
-    ensures { λ r. ⌜ PutsBytes (now (room .entry)) (now (room .exit)) at (exhibited (now (commands .entry)) (now (lengths .entry)) (now (generations .entry)) (now (relation .entry)) number sheet) r ⌝ }
+    ensures { λ r. ⌜ PutsBytes (now (room .entry)) (now (room .exit)) at
+        (exhibited (now (commands .entry)) (now (lengths .entry)) (now (generations .entry)) (now (relation .entry)) number sheet) r ⌝ }
 {
     if !admits(commands, lengths, relation.len(), generations.len()) {
         return at;
