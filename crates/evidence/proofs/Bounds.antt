@@ -28,14 +28,14 @@ use Rattle.review.specs.Agreement.{number}
 use Rattle.review.proofs.Bounds.{Small, finding-small, bare-small, refused-placed}
 use Rattle.evidence.specs.declared.door.Evidence.{Evidence}
 use Rattle.evidence.specs.Evidence.{against, evidenceRoom, evidenceOf}
-use Rattle.evidence.specs.Doors.{refusedShowing, Evidenced}
+use Rattle.evidence.specs.Doors.{refusedShowing, refusedOf, Evidenced}
 use Rattle.evidence.proofs.Putting.{apart-few}
 use Rattle.evidence.proofs.Doors.{showing-passes}
 
 module _ {commands lengths σ relation generations room : List ℕ} {r : Evidence} {relation′ generations′ room′ : List ℕ}
     (E : Evidenced commands lengths σ relation generations room r relation′ generations′ room′) where
   abbrev all : Told
-  all = refusedShowing commands lengths (length relation) (length generations) (length room)
+  all = refusedOf commands lengths relation generations room
 
   short-placed : (b : Bool) → Placed (cond b (tell 4 4 0) (tell 0 0 0))
   unfolding mostRows

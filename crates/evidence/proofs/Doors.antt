@@ -26,7 +26,7 @@ use Rattle.review.specs.Judge.{reaches}
 use Rattle.review.specs.Agreement.{number, Reviewed}
 use Rattle.evidence.specs.declared.door.Evidence.{Evidence}
 use Rattle.evidence.specs.Evidence.{Disputes, HasBefore, against, bothWays, evidenceRoom, evidenceOf}
-use Rattle.evidence.specs.Doors.{shortEvidence, refusedShowing, scheduleAt, Opposes, HoldsEvidence, Evidenced}
+use Rattle.evidence.specs.Doors.{shortEvidence, refusedShowing, refusedOf, scheduleAt, Opposes, HoldsEvidence, Evidenced}
 use Rattle.evidence.proofs.Shown.{shown-ten, shown-orders, shown-long, evidence-is}
 use Rattle.evidence.proofs.Slices.{both-long, x-at, y-at, nothing-of}
 
@@ -107,7 +107,7 @@ module _ (commands lengths σ relation generations room : List ℕ) where
   refusal = refused commands lengths (length relation) (length generations)
 
   abbrev all : Told
-  all = refusedShowing commands lengths (length relation) (length generations) (length room)
+  all = refusedOf commands lengths relation generations room
 
   -- refused, with nothing done
   untouched : (v : Verdict) → numbered v ≡ all → all .number ≢ 0

@@ -27,6 +27,10 @@ shortEvidence m room = cond (ltb room (evidenceRoom m)) (tell 4 4 0) (tell 0 0 0
 unfoldable pub refusedShowing : List ℕ → List ℕ → (relation generations room : ℕ) → Told
 refusedShowing commands lengths relation generations room = orElse (refused commands lengths relation generations) (shortEvidence (rows commands) room)
 
+-- the same of three rooms that are lent
+abbrev pub refusedOf : (commands lengths relation generations room : List ℕ) → Told
+refusedOf commands lengths relation generations room = refusedShowing commands lengths (length relation) (length generations) (length room)
+
 -- the i-th of schedules of m entries each that stand end to end
 abbrev pub scheduleAt : ℕ → ℕ → List ℕ → List ℕ
 scheduleAt m i room = take m (drop (i * m) room)
@@ -64,12 +68,8 @@ pub record Untouched (relation generations room : List ℕ) (r : Evidence) (rela
 
 -- The contract of `review_evidence`: 1 to 4 with nothing done; or the review as it is without evidence, and the evidence.
 pub record Evidenced (commands lengths schedule relation generations room : List ℕ) (r : Evidence) (relation′ generations′ room′ : List ℕ) : Type 0 where
-  pub refused :
-      refusedShowing commands lengths (length relation) (length generations) (length room) .number ≢ 0
-      → (numbered (r .finding .verdict) ≡ refusedShowing commands lengths (length relation) (length generations) (length room))
-      × Untouched relation generations room r relation′ generations′ room′
-  pub reviewed :
-      refusedShowing commands lengths (length relation) (length generations) (length room) .number ≡ 0
+  pub refused : refusedOf commands lengths relation generations room .number ≢ 0
+      → (numbered (r .finding .verdict) ≡ refusedOf commands lengths relation generations room) × Untouched relation generations room r relation′ generations′ room′
+  pub reviewed : refusedOf commands lengths relation generations room .number ≡ 0
       → Reviewed commands lengths schedule relation generations (r .finding) relation′ generations′
-  pub holds :
-      refusedShowing commands lengths (length relation) (length generations) (length room) .number ≡ 0 → HoldsEvidence commands lengths schedule room r room′
+  pub holds : refusedOf commands lengths relation generations room .number ≡ 0 → HoldsEvidence commands lengths schedule room r room′

@@ -20,8 +20,8 @@ use Rattle.replay.specs.Ending.{judged}
 use Rattle.replay.specs.Replay.{played, generation}
 use Rattle.replay.specs.Writer.{apartSchedule}
 use Rattle.replay.proofs.Picking.{lowest-alike, apart-alike}
-use Rattle.exhibits.specs.declared.shown.Shown.{Shown}
-use Rattle.exhibits.specs.declared.shown.Shown.the-variants.{First}
+use Rattle.wording.specs.declared.Shown.{Shown}
+use Rattle.wording.specs.declared.Shown.the-variants.{First}
 use Rattle.exhibits.specs.Shown.{differs, generationOf, otherGeneration, shownAs, shownBy}
 use Rattle.exhibits.specs.Exhibits.{exhibit, reuseExhibit, orderExhibit, raceExhibits, exhibits}
 use Rattle.exhibits.proofs.Doors.{exhibits-ten, exhibits-eleven, exhibits-none}

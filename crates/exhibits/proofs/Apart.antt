@@ -16,9 +16,9 @@ use Rattle.printing.proofs.Placing.{puts-on}
 use Rattle.replay.specs.declared.writer.Written.{Written}
 use Rattle.replay.specs.Writer.{unwritten, FilledBy, Fits}
 use Rattle.replay.specs.Doors.{WritesBy}
-use Rattle.exhibits.specs.declared.shown.Shown.{Shown}
+use Rattle.wording.specs.declared.Shown.{Shown}
 use Rattle.exhibits.specs.Shown.{shownBy}
-use Rattle.exhibits.specs.Lines.{shownLine, stepsLine}
+use Rattle.wording.specs.Lines.{shownLine, stepsLine}
 use Rattle.exhibits.specs.Exhibits.{exhibit}
 
 -- a full room of zeros has place for a schedule

@@ -27,10 +27,10 @@ use Rattle.replay.specs.Schedules.{Complete}
 use Rattle.replay.proofs.Judged.{clean-verdict}
 use Rattle.replay.proofs.Places.{judged-placed, generation-placed, complete-told, schedule-by-few, schedule-by-low}
 use Rattle.replay.proofs.Writing.{first-complete}
-use Rattle.exhibits.specs.declared.shown.Shown.{Shown}
-use Rattle.exhibits.specs.declared.shown.Shown.the-variants.{First, Generation, Mismatch, Deadlock, LeftSet}
+use Rattle.wording.specs.declared.Shown.{Shown}
+use Rattle.wording.specs.declared.Shown.the-variants.{First, Generation, Mismatch, Deadlock, LeftSet}
 use Rattle.exhibits.specs.Shown.{differs, otherGeneration, shownAs, shownBy}
-use Rattle.exhibits.specs.Lines.{commandWord, firstWord, getsWord, notWord, clashWord, deadlockWord, barrierWord, moreWord, lineEnd, shownLine, partedBy, stepsLine}
+use Rattle.wording.specs.Lines.{commandWord, firstWord, getsWord, notWord, clashWord, deadlockWord, barrierWord, moreWord, lineEnd, shownLine, partedBy, stepsLine}
 use Rattle.exhibits.specs.Exhibits.{reuseExhibit, orderExhibit, raceExhibits, exhibits}
 use Rattle.exhibits.proofs.Doors.{exhibits-ten, exhibits-eleven, exhibits-none}
 use Rattle.exhibits.proofs.Alike.{BothCommands, Named}

@@ -14,7 +14,7 @@ use Rattle.rooms.specs.Rooms.{numberAt}
 use Rattle.replay.specs.declared.offered.Judged.{Judged}
 use Rattle.replay.specs.Doors.{Replays}
 use Rattle.tables.proofs.Scans.{Scanned, scan-found, scan-end}
-use Rattle.exhibits.specs.declared.shown.Shown.the-variants.{Generation, Mismatch, Deadlock, LeftSet}
+use Rattle.wording.specs.declared.Shown.the-variants.{Generation, Mismatch, Deadlock, LeftSet}
 use Rattle.exhibits.specs.declared.shown.End.{End}
 use Rattle.exhibits.specs.Shown.{differs, generationOf, otherGeneration, shownBy, Ended}
 

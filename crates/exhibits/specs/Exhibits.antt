@@ -12,10 +12,10 @@ use Rattle.sheet.specs.Sheet.{keptPairs, firstKept}
 use Rattle.rooms.specs.Refusals.{refused}
 use Rattle.rooms.specs.Rooms.{numberAt}
 use Rattle.replay.specs.Writer.{apartSchedule}
-use Rattle.exhibits.specs.declared.shown.Shown.{Shown}
-use Rattle.exhibits.specs.declared.shown.Shown.the-variants.{First}
+use Rattle.wording.specs.declared.Shown.{Shown}
+use Rattle.wording.specs.declared.Shown.the-variants.{First}
 use Rattle.exhibits.specs.Shown.{shownBy}
-use Rattle.exhibits.specs.Lines.{shownLine, stepsLine}
+use Rattle.wording.specs.Lines.{shownLine, stepsLine}
 
 -- a schedule below what it shows
 abbrev pub exhibit : Shown → List ℕ → List ℕ

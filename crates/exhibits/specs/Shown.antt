@@ -13,8 +13,8 @@ use Rattle.verdicts.specs.declared.Told.{Told}
 use Rattle.replay.specs.Ending.{judged}
 use Rattle.replay.specs.Replay.{played, generation}
 use Rattle.replay.specs.Schedules.{Precedes}
-use Rattle.exhibits.specs.declared.shown.Shown.{Shown}
-use Rattle.exhibits.specs.declared.shown.Shown.the-variants.{First, Generation, Mismatch, Deadlock, LeftSet}
+use Rattle.wording.specs.declared.Shown.{Shown}
+use Rattle.wording.specs.declared.Shown.the-variants.{First, Generation, Mismatch, Deadlock, LeftSet}
 use Rattle.exhibits.specs.declared.shown.End.{End}
 
 -- ---- another generation

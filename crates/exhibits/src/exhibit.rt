@@ -7,15 +7,15 @@ ghost use Rattle.rooms.specs.Rooms.{numberAt, Roomy};
 ghost use Rattle.replay.specs.Writer.{apartSchedule, FilledBy, Fits};
 ghost use Rattle.printing.specs.Putting.{PutsBytes};
 ghost use Rattle.exhibits.specs.Exhibits.{reuseExhibit, orderExhibit, raceExhibits, exhibited};
-use crate::line::put_shown;
-use crate::line::put_steps;
-use crate::shown::Shown;
 use crate::shown::shown_by;
 use replay::write_apart;
 use rooms::admits;
 use sheet::Sheet;
 use sheet::kept;
 use tables::Table;
+use wording::put_first;
+use wording::put_shown;
+use wording::put_steps;
 
 // The schedule in which d and what c does not reach go first, from the front of a room; answers its length.
 fn fill_apart(
@@ -27,7 +27,8 @@ fn fill_apart(
     room: &mut [u32],
 ) -> usize
     requires { ⌜ Fits (now commands) (now lengths) (now room) ⌝ }
-    ensures { λ r. ⌜ FilledBy (apartSchedule (now (commands .entry)) (now (lengths .entry)) (related (now (relation .entry)) (rows (now (commands .entry)))) c d) (now (room .entry)) (now (room .exit)) r ⌝ }
+    ensures { λ r. ⌜ FilledBy (apartSchedule (now (commands .entry)) (now (lengths .entry)) (related (now (relation .entry)) (rows (now (commands .entry)))) c d)
+        (now (room .entry)) (now (room .exit)) r ⌝ }
 {
     let written = write_apart(commands, lengths, relation, c, d, room);
     written.length
@@ -44,11 +45,12 @@ fn put_way(
     at: usize,
 ) -> usize
     requires { ⌜ Keeps (now commands) (now lengths) ⌝ }
-    ensures { λ r. ⌜ PutsBytes (now (room .entry)) (now (room .exit)) at (orderExhibit (now (commands .entry)) (now (lengths .entry)) (related (now (relation .entry)) (rows (now (commands .entry)))) x y) r ⌝ }
+    ensures { λ r. ⌜ PutsBytes (now (room .entry)) (now (room .exit)) at
+        (orderExhibit (now (commands .entry)) (now (lengths .entry)) (related (now (relation .entry)) (rows (now (commands .entry)))) x y) r ⌝ }
 {
     let mut schedule = [0u32; Table::ROWS];
     let steps = fill_apart(commands, lengths, relation, y, x, &mut schedule);
-    let next = put_shown(room, at, Shown::First(x, y));
+    let next = put_first(room, at, x, y);
     put_steps(room, next, &schedule[..steps])
 }
 
@@ -64,7 +66,9 @@ fn put_reuse(
     at: usize,
 ) -> usize
     requires { ⌜ Roomy (now commands) (now lengths) (now generations) (now relation) ⌝ }
-    ensures { λ r. ⌜ PutsBytes (now (room .entry)) (now (room .exit)) at (reuseExhibit (now (commands .entry)) (now (lengths .entry)) (related (now (relation .entry)) (rows (now (commands .entry)))) (numberAt (now (generations .entry))) (pair c d)) r ⌝ }
+    ensures { λ r. ⌜ PutsBytes (now (room .entry)) (now (room .exit)) at
+        (reuseExhibit (now (commands .entry)) (now (lengths .entry)) (related (now (relation .entry)) (rows (now (commands .entry))))
+        (numberAt (now (generations .entry))) (pair c d)) r ⌝ }
 {
     let mut schedule = [0u32; Table::ROWS];
     let steps = fill_apart(commands, lengths, relation, c, d, &mut schedule);
@@ -83,7 +87,8 @@ fn put_races(
     at: usize,
 ) -> usize
     requires { ⌜ Keeps (now commands) (now lengths) ⌝ }
-    ensures { λ r. ⌜ PutsBytes (now (room .entry)) (now (room .exit)) at (raceExhibits (now (commands .entry)) (now (lengths .entry)) (related (now (relation .entry)) (rows (now (commands .entry)))) (keptPairs sheet)) r ⌝ }
+    ensures { λ r. ⌜ PutsBytes (now (room .entry)) (now (room .exit)) at
+        (raceExhibits (now (commands .entry)) (now (lengths .entry)) (related (now (relation .entry)) (rows (now (commands .entry)))) (keptPairs sheet)) r ⌝ }
 {
     let n = kept(sheet.total);
     let mut next = at;
@@ -110,7 +115,8 @@ pub fn put_exhibits(
     room: &mut [u8],
     at: usize,
 ) -> usize
-    ensures { λ r. ⌜ PutsBytes (now (room .entry)) (now (room .exit)) at (exhibited (now (commands .entry)) (now (lengths .entry)) (now (generations .entry)) (now (relation .entry)) number sheet) r ⌝ }
+    ensures { λ r. ⌜ PutsBytes (now (room .entry)) (now (room .exit)) at
+        (exhibited (now (commands .entry)) (now (lengths .entry)) (now (generations .entry)) (now (relation .entry)) number sheet) r ⌝ }
 {
     if !admits(commands, lengths, relation.len(), generations.len()) {
         return at;

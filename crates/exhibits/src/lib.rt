@@ -1,6 +1,5 @@
-// What is printed of evidence: schedules, each below a line that says what it shows. Read in this order: shown, line, exhibit.
+// What is printed of evidence: schedules, each below a line that says what it shows. Read in this order: shown, exhibit.
 mod exhibit; // the exhibits of a verdict, and their door
-mod line; // the lines: what a schedule shows, and the schedule
 mod shown; // what a schedule shows, judged again
 
 pub use exhibit::put_exhibits;

@@ -9,15 +9,7 @@ ghost use Rattle.exhibits.specs.Shown.{otherGeneration, shownBy, Ended, 
 use replay::judge;
 use tables::Table;
 use verdicts::Told;
-
-// One command before another; another generation than the one offered; or an end in 7, 8 or 9.
-pub(crate) enum Shown {
-    First(usize, usize),
-    Generation(usize, u32, u32),
-    Mismatch(usize),
-    Deadlock(usize),
-    LeftSet(usize),
-}
+use wording::Shown;
 
 // How a schedule ended, and the generation of each command that ran.
 struct End {

@@ -58,10 +58,6 @@ module _ {before after : List ℕ} {at n : ℕ} {w : List ℕ} (p : PutsBytes be
   pub puts-long : length after ≡ length before
   puts-long = ap length (p .room) ∙ length-sets before at w
 
-  -- where the bytes have room the place is after the last of them
-  pub puts-next : at + length w ≤ length before → n ≡ at + length w
-  puts-next h = omega (arith, p .on)
-
 module _ {before mid after : List ℕ} {at n k : ℕ} {a b : List ℕ} where
   pub puts-on : PutsBytes before mid at a n → PutsBytes mid after n b k → PutsBytes before after at (a ++ b) k
   puts-on p q =

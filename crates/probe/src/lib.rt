@@ -26,7 +26,9 @@ pub extern "C" fn probe_review(
     evidence: &mut [u32],
     answer: &mut [u32],
 ) -> u32
-    ensures { λ n. ⌜ ProbesReview (now (commands .entry)) (now (lengths .entry)) (now (schedule .entry)) (now (relation .entry)) (now (generations .entry)) (now (evidence .entry)) (now (answer .entry)) (now (relation .exit)) (now (generations .exit)) (now (evidence .exit)) (now (answer .exit)) n ⌝ }
+    ensures { λ n. ⌜ ProbesReview (now (commands .entry)) (now (lengths .entry)) (now (schedule .entry))
+        (now (relation .entry)) (now (generations .entry)) (now (evidence .entry)) (now (answer .entry))
+        (now (relation .exit)) (now (generations .exit)) (now (evidence .exit)) (now (answer .exit)) n ⌝ }
 {
     if answer.len() < Answer::NUMBERS {
         return 14;
@@ -49,7 +51,8 @@ pub extern "C" fn probe_schedule(
     room: &mut [u32],
     answer: &mut [u32],
 ) -> u32
-    ensures { λ n. ⌜ ProbesSchedule (now (commands .entry)) (now (lengths .entry)) (now (room .entry)) (now (answer .entry)) (now (room .exit)) (now (answer .exit)) n ⌝ }
+    ensures { λ n. ⌜ ProbesSchedule (now (commands .entry)) (now (lengths .entry)) (now (room .entry)) (now (answer .entry))
+        (now (room .exit)) (now (answer .exit)) n ⌝ }
 {
     if answer.len() < Answer::NUMBERS {
         return 14;
@@ -69,7 +72,8 @@ pub extern "C" fn probe_read(
     lengths: &mut [u32],
     answer: &mut [u32],
 ) -> u32
-    ensures { λ n. ⌜ ProbesRead (now (text .entry)) (now (commands .entry)) (now (lengths .entry)) (now (answer .entry)) (now (commands .exit)) (now (lengths .exit)) (now (answer .exit)) n ⌝ }
+    ensures { λ n. ⌜ ProbesRead (now (text .entry)) (now (commands .entry)) (now (lengths .entry)) (now (answer .entry))
+        (now (commands .exit)) (now (lengths .exit)) (now (answer .exit)) n ⌝ }
 {
     if answer.len() < Answer::NUMBERS {
         return 14;

@@ -2,7 +2,7 @@
 use mathlib.Core.Path.{sym, _∙_}
 use borrow.Author.Needs.{needs}
 use Rattle.printing.proofs.Placing.{puts-none}
-use Rattle.exhibits.proofs.Along.{puts-as}
+use Rattle.wording.proofs.Along.{puts-as}
 use Rattle.exhibits.proofs.Doors.{said-admitted, said-refused, roomy, exhibited-none, exhibited-all, exhibits-ten, exhibits-eleven, exhibits-none}
 use Rattle.exhibits.proofs.exhibit.put_exhibits.Statement.{statement}
 use Rattle.exhibits.proofs.exhibit.put_exhibits.Tie as tie

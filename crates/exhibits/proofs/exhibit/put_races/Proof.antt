@@ -9,7 +9,8 @@ use Rattle.relation.specs.Table.{related}
 use Rattle.sheet.specs.Sheet.{mostKept}
 use Rattle.printing.proofs.Placing.{puts-on}
 use Rattle.exhibits.specs.Exhibits.{raceExhibits}
-use Rattle.exhibits.proofs.Along.{Along, along-none, along-more, along-end, along-long, races-next, races-end}
+use Rattle.wording.proofs.Along.{Along, along-none, along-more, along-end, along-long}
+use Rattle.exhibits.proofs.Races.{races-next, races-end}
 use Rattle.exhibits.proofs.exhibit.put_races.Statement.{statement}
 use Rattle.exhibits.proofs.exhibit.put_races.Tie as tie
 

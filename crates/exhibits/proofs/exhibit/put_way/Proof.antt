@@ -19,7 +19,7 @@ unfolding orderExhibit
 returns c =
     let p = c .before .before in
     let s = p .before .before .before .before .before in
-    puts-below (s .before .before .before .fill-apart .ensures) (s .put-shown .ensures) (p .put-steps .ensures)
+    puts-below (s .before .before .before .fill-apart .ensures) (s .put-first .ensures) (p .put-steps .ensures)
 
 pub put-way-spec : {M : Type 1} → statement M
 put-way-spec =

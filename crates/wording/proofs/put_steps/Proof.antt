@@ -4,10 +4,10 @@ use native.Mathlib.Omega.{arith}
 use lib.ListN.{length, drop}
 use borrow.Author.Needs.{needs}
 use Rattle.printing.proofs.Placing.{puts-on}
-use Rattle.exhibits.specs.Lines.{stepsLine}
-use Rattle.exhibits.proofs.Along.{Along, along-none, along-more, along-end, along-long, steps-next, steps-end}
-use Rattle.exhibits.proofs.line.put_steps.Statement.{statement}
-use Rattle.exhibits.proofs.line.put_steps.Tie as tie
+use Rattle.wording.specs.Lines.{stepsLine}
+use Rattle.wording.proofs.Along.{Along, along-none, along-more, along-end, along-long, steps-next, steps-end}
+use Rattle.wording.proofs.put_steps.Statement.{statement}
+use Rattle.wording.proofs.put_steps.Tie as tie
 
 abbrev Inv-loop : tie.InvT-loop
 Inv-loop room₀ at schedule next₀ i₀ room next i = Along room₀ room at (stepsLine schedule) (stepsLine (drop i schedule)) next × (i ≤ length schedule)

@@ -1,7 +1,7 @@
 -- `parted_by` meets its contract. Assumes nothing.
 use borrow.Author.Tests.{eq-eqb, ne-eqb}
-use Rattle.exhibits.proofs.line.parted_by.Statement.{statement}
-use Rattle.exhibits.proofs.line.parted_by.Tie as tie
+use Rattle.wording.proofs.parted_by.Statement.{statement}
+use Rattle.wording.proofs.parted_by.Tie as tie
 
 returns : tie.Need-returns
 returns c = rw (eq-eqb _ _ (c .if1 .taken))

@@ -2,9 +2,9 @@
 use mathlib.Core.List.{append-assoc}
 use borrow.Author.Needs.{needs}
 use Rattle.printing.proofs.Placing.{puts-on}
-use Rattle.exhibits.specs.Lines.{shownLine}
-use Rattle.exhibits.proofs.line.put_first.Statement.{statement}
-use Rattle.exhibits.proofs.line.put_first.Tie as tie
+use Rattle.wording.specs.Lines.{shownLine}
+use Rattle.wording.proofs.put_first.Statement.{statement}
+use Rattle.wording.proofs.put_first.Tie as tie
 
 returns : tie.Need-returns
 unfolding shownLine

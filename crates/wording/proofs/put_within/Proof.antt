@@ -1,8 +1,8 @@
 -- `put_within` meets its contract: three puts, one after another. Assumes nothing.
 use borrow.Author.Needs.{needs}
 use Rattle.printing.proofs.Placing.{puts-on}
-use Rattle.exhibits.proofs.line.put_within.Statement.{statement}
-use Rattle.exhibits.proofs.line.put_within.Tie as tie
+use Rattle.wording.proofs.put_within.Statement.{statement}
+use Rattle.wording.proofs.put_within.Tie as tie
 
 returns : tie.Need-returns
 returns c =

@@ -6,8 +6,8 @@ use lib.Dec.{eqb}
 use lib.ListN.{length}
 use Rattle.printing.specs.Marks.{space, newline}
 use Rattle.printing.specs.Figures.{figures}
-use Rattle.exhibits.specs.declared.shown.Shown.{Shown}
-use Rattle.exhibits.specs.declared.shown.Shown.the-variants.{First, Generation, Mismatch, Deadlock, LeftSet}
+use Rattle.wording.specs.declared.Shown.{Shown}
+use Rattle.wording.specs.declared.Shown.the-variants.{First, Generation, Mismatch, Deadlock, LeftSet}
 
 abbrev pub lineEnd : List ℕ
 lineEnd = newline ∷ []

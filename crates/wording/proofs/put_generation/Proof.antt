@@ -1,9 +1,9 @@
 -- `put_generation` meets its contract. Assumes nothing.
 use borrow.Author.Needs.{needs}
 use Rattle.printing.proofs.Placing.{puts-on}
-use Rattle.exhibits.proofs.Along.{generation-line, puts-as}
-use Rattle.exhibits.proofs.line.put_generation.Statement.{statement}
-use Rattle.exhibits.proofs.line.put_generation.Tie as tie
+use Rattle.wording.proofs.Along.{generation-line, puts-as}
+use Rattle.wording.proofs.put_generation.Statement.{statement}
+use Rattle.wording.proofs.put_generation.Tie as tie
 
 returns : tie.Need-returns
 returns c =

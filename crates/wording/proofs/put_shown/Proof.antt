@@ -1,8 +1,8 @@
 -- `put_shown` meets its contract, by what is shown. Assumes nothing.
 use borrow.Author.Needs.{needs}
-use Rattle.exhibits.specs.Lines.{shownLine}
-use Rattle.exhibits.proofs.line.put_shown.Statement.{statement}
-use Rattle.exhibits.proofs.line.put_shown.Tie as tie
+use Rattle.wording.specs.Lines.{shownLine}
+use Rattle.wording.proofs.put_shown.Statement.{statement}
+use Rattle.wording.proofs.put_shown.Tie as tie
 
 returns : tie.Need-returns
 returns c = rw (c .before .before .before .before .before .shown .given .1) (c .before .before .put-first .ensures)

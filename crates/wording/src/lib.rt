@@ -1,14 +1,22 @@
-// The lines: what a schedule shows, in words, and the schedule.
+// The lines of evidence: what a schedule shows, in words, and the schedule, into a room from a place on. Each answers the place after what it put.
 ghost use mathlib.Core.Path.{_≡_};
 ghost use mathlib.Core.List.{_++_};
 ghost use Rattle.printing.specs.Figures.{figures};
 ghost use Rattle.printing.specs.Putting.{PutsBytes};
-ghost use Rattle.exhibits.specs.declared.shown.Shown.the-variants.{First, Generation};
-ghost use Rattle.exhibits.specs.Lines.{shownLine, partedBy, stepsLine};
-use crate::shown::Shown;
+ghost use Rattle.wording.specs.declared.Shown.the-variants.{First, Generation};
+ghost use Rattle.wording.specs.Lines.{shownLine, partedBy, stepsLine};
 use printing::put;
 use printing::put_byte;
 use printing::put_number;
+
+// One command before another; another generation than the one offered; or an end in 7, 8 or 9.
+pub enum Shown {
+    First(usize, usize),
+    Generation(usize, u32, u32),
+    Mismatch(usize),
+    Deadlock(usize),
+    LeftSet(usize),
+}
 
 // A number with what stands before and after it.
 fn put_within(room: &mut [u8], at: usize, before: &[u8], n: usize, after: &[u8]) -> usize
@@ -20,7 +28,7 @@ fn put_within(room: &mut [u8], at: usize, before: &[u8], n: usize, after: &[u8])
 }
 
 // One command before another.
-fn put_first(room: &mut [u8], at: usize, x: usize, y: usize) -> usize
+pub fn put_first(room: &mut [u8], at: usize, x: usize, y: usize) -> usize
     ensures { λ r. ⌜ PutsBytes (now (room .entry)) (now (room .exit)) at (shownLine (First x y)) r ⌝ }
 {
     let next = put_within(room, at, b"command ", x, b" comes before command ");
@@ -37,7 +45,7 @@ fn put_generation(room: &mut [u8], at: usize, c: usize, g: u32, h: u32) -> usize
 }
 
 // What a schedule shows, in words.
-pub(crate) fn put_shown(room: &mut [u8], at: usize, shown: Shown) -> usize
+pub fn put_shown(room: &mut [u8], at: usize, shown: Shown) -> usize
     ensures { λ r. ⌜ PutsBytes (now (room .entry)) (now (room .exit)) at (shownLine shown) r ⌝ }
 {
     match shown {
@@ -69,7 +77,7 @@ fn parted_by(left: usize) -> u8
 }
 
 // A schedule, thread by thread.
-pub(crate) fn put_steps(room: &mut [u8], at: usize, schedule: &[u32]) -> usize
+pub fn put_steps(room: &mut [u8], at: usize, schedule: &[u32]) -> usize
     ensures { λ r. ⌜ PutsBytes (now (room .entry)) (now (room .exit)) at (stepsLine (now (schedule .entry))) r ⌝ }
 {
     let mut next = at;

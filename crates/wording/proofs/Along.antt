@@ -1,20 +1,16 @@
 -- Bytes put part by part: what has been put, and what is left. Assumes nothing.
 use mathlib.Core.Path.{_≡_, refl, sym, ap, _∙_}
-use mathlib.Core.Bool.{Bool}
 use mathlib.Core.List.{List, [], _∷_, _++_, append-nil, append-assoc}
 use Prim.Native.Nat.{ℕ, zero, suc, _+_, _-_, _≤_, _<_}
 use native.Mathlib.Numerals.{add-one}
 use native.Mathlib.Omega.{arith}
-use lib.ListN.{length, getD, take, drop, length-drop}
-use lib.Seq.{drop-cons, length-take-le, getD-take}
-use Rattle.sheet.specs.declared.Pair.{Pair}
-use Rattle.sheet.specs.Sheet.{pair}
+use lib.ListN.{length, getD, drop, length-drop}
+use lib.Seq.{drop-cons}
 use Rattle.printing.specs.Figures.{figures}
 use Rattle.printing.specs.Putting.{PutsBytes}
 use Rattle.printing.proofs.Placing.{puts-none, puts-on, puts-long}
-use Rattle.exhibits.specs.declared.shown.Shown.the-variants.{Generation}
-use Rattle.exhibits.specs.Lines.{commandWord, getsWord, notWord, lineEnd, shownLine, partedBy, stepsLine}
-use Rattle.exhibits.specs.Exhibits.{orderExhibit, raceExhibits}
+use Rattle.wording.specs.declared.Shown.the-variants.{Generation}
+use Rattle.wording.specs.Lines.{commandWord, getsWord, notWord, lineEnd, shownLine, partedBy, stepsLine}
 
 -- of all the bytes a front is put, and the rest is left
 pub record Along (before room : List ℕ) (at : ℕ) (all rest : List ℕ) (next : ℕ) : Type 0 where
@@ -55,7 +51,7 @@ puts-as e p = rw e at p
 
 -- ---- a schedule
 
-drop-past : {A : Type 0} (i : ℕ) (l : List A) → length l ≤ i → drop i l ≡ []
+pub drop-past : {A : Type 0} (i : ℕ) (l : List A) → length l ≤ i → drop i l ≡ []
 drop-past zero [] h = refl
 drop-past zero (x ∷ l) h = absurd (omega arith)
 drop-past (suc i) [] h = refl
@@ -73,22 +69,3 @@ module _ (σ : List ℕ) (i : ℕ) where
   pub steps-end : length σ ≤ i → stepsLine (drop i σ) ≡ []
   unfolding stepsLine
   steps-end l = ap stepsLine (drop-past i σ l)
-
--- ---- races
-
-module _ (commands lengths : List ℕ) (ρ : ℕ → ℕ → Bool) (ps : List Pair) (n k : ℕ) (few : n ≤ length ps) where
-  abbrev p : Pair
-  p = getD ps k (pair 0 0)
-
-  pub races-next : k < n
-      → raceExhibits commands lengths ρ (drop k (take n ps))
-      ≡ orderExhibit commands lengths ρ (p .first) (p .second) ++ orderExhibit commands lengths ρ (p .second) (p .first) ++ raceExhibits commands lengths ρ (drop (k + 1) (take n ps))
-  unfolding raceExhibits
-  races-next l =
-      let e : drop k (take n ps) ≡ p ∷ drop (suc k) (take n ps) =
-      drop-cons (take n ps) k (pair 0 0) (omega (arith, length-take-le n ps few)) ∙ ap (λ (q : Pair). q ∷ drop (suc k) (take n ps)) (getD-take n ps k (pair 0 0) l) in
-      rw add-one (ap (raceExhibits commands lengths ρ) e)
-
-  pub races-end : n ≤ k → raceExhibits commands lengths ρ (drop k (take n ps)) ≡ []
-  unfolding raceExhibits
-  races-end l = ap (raceExhibits commands lengths ρ) (drop-past k (take n ps) (omega (arith, length-take-le n ps few)))
