@@ -71,9 +71,11 @@ void *lend_room(struct lent *lent, size_t length, size_t unit, int at_end, uint6
 {
     lent->is_room = 1;
     place(lent, length, unit, at_end);
-    for (size_t i = 0; i < length; i++) {
+    /* Eight bytes a turn, since rooms are large and many. The copy has pages of its own, so that the last turn stays within it. */
+    for (size_t i = 0; i < length; i += sizeof junk) {
         junk = junk * 6364136223846793005u + 1442695040888963407u;
-        lent->copy[i] = (uint8_t)(junk >> 56);
+        uint64_t mixed = junk ^ junk >> 32; /* the low bits of such a product are poor */
+        memcpy(lent->copy + i, &mixed, sizeof mixed);
     }
     memcpy(lent->at, lent->copy, length);
     return lent->at;

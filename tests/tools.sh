@@ -1,10 +1,10 @@
 # Sourced by .ci/run, tests/run, tests/long and bench/run at the top of the repository: what builds and runs C code over the archives. These are for x86-64; on another machine
-# Debian's cross compiler builds, statically, and an emulator runs what it built.
+# Debian's cross compiler builds, statically, and an emulator runs what it built, as the plainest machine of that kind, which is what the archives are made for.
 # shellcheck shell=bash disable=SC2034
 if [ "$(uname -m)" = x86_64 ]; then
   kind=x86_64 prefix='' cc=(cc) cxx=c++ emulator=()
 else
-  kind=other prefix=x86_64-linux-gnu- cc=(x86_64-linux-gnu-gcc -static) cxx=x86_64-linux-gnu-g++ emulator=(qemu-x86_64)
+  kind=other prefix=x86_64-linux-gnu- cc=(x86_64-linux-gnu-gcc -static) cxx=x86_64-linux-gnu-g++ emulator=(qemu-x86_64 -cpu qemu64)
 fi
 
 # Installs what is missing of the packages that tests/packages lists for this kind of machine. Only root can.
@@ -46,9 +46,9 @@ make_archives() {
   return "$failed"
 }
 
-# build_compare PROGRAM: the comparison with the reference, over both archives.
+# build_compare PROGRAM: the comparison with the reference, over both archives. Its files are compiled as one, since it plays millions of schedules step by step.
 build_compare() {
-  "${cc[@]}" -std=c99 -pedantic -Wall -Wextra -Werror -O2 -o "$1" tests/compare.c tests/reference.c tests/evidence.c tests/printed.c tests/schedules.c tests/lent.c tests/inputs.c \
+  "${cc[@]}" -std=c99 -pedantic -Wall -Wextra -Werror -O2 -flto -o "$1" tests/compare.c tests/reference.c tests/evidence.c tests/printed.c tests/schedules.c tests/lent.c tests/inputs.c \
     target/staticlib/libprobe.a target/staticlib/libdesk.a
 }
 
