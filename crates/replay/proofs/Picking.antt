@@ -1,6 +1,6 @@
 -- Which thread a writer lets step; and that no more is asked of the commands that go first than what is said of rows. Assumes nothing.
-use mathlib.Core.Path.{_≡_, refl, sym, _∙_}
-use mathlib.Core.Bool.{Bool, false, not, _&&_, _||_}
+use mathlib.Core.Path.{_≡_, refl, _∙_}
+use mathlib.Core.Bool.{Bool, false, not, _||_}
 use mathlib.Core.List.{List}
 use mathlib.Core.Logic.{⊎-elim}
 use Prim.Native.Nat.{ℕ, zero, suc, _+_, _≤_, _<_}
@@ -10,7 +10,7 @@ use lib.ListN.{length, set, length-set, List·getD-eq-default}
 use lib.Seq.{getD-set-same, getD-set-other}
 use borrow.Author.Count.{below-none, below-more}
 use Rattle.tables.specs.Lowest.{lowest}
-use Rattle.tables.specs.Rows.{rows, firstRow}
+use Rattle.tables.specs.Rows.{rows}
 use Rattle.tables.specs.Rules.{Keeps}
 use Rattle.tables.proofs.Lowest.{lowest-first, lowest-is}
 use Rattle.turns.specs.Turns.{goesFirst, stepsFirst, turn}

@@ -1,5 +1,5 @@
 -- `lowest_blocked` meets its contract: no thread that the loop has passed waits. Assumes nothing.
-use mathlib.Core.Path.{ap, sym, _∙_}
+use mathlib.Core.Path.{ap}
 use mathlib.Core.Bool.{not}
 use Prim.Native.Nat.{_-_}
 use borrow.Author.Needs.{needs}
