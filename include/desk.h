@@ -29,7 +29,8 @@ extern "C" {
  * Commands are numbered from 0, through all threads in the order of the text. V, and what P and Q then are:
  *
  *      0   every schedule ends clean, in the same generations, and conflicting accesses have one order: 0 0
- *      3   a command has an address over 4095, a barrier over 15, or a count that is 0 or over 1024: the first such command, 0
+ *      3   a command has an address over 4095, a barrier over 15, or a count that is 0 or larger than the number of threads of the text,
+ *          which can never be met: the first such command, 0
  *      7   a command names another count than its barrier already expects: that command, 0
  *      8   deadlock: the command at which the first blocked thread waits, 0
  *      9   all threads end and a barrier is left set: the lowest such barrier, 0

@@ -1,4 +1,5 @@
--- Document 01's starred example with a report in whole, C, and D, whose report is the same: one table, and the one test that each of its rows is to pass.
+-- Document 01's starred example with a report in whole, C, and D, whose report is the same, and a text with a count that 2026-02 refuses: one table, and
+-- the one test that each of its rows is to pass.
 use mathlib.Core.Bool.{Bool, true, _&&_}
 use mathlib.Core.List.{List, [], _∷_}
 use Prim.Native.Nat.{ℕ}
@@ -34,6 +35,15 @@ reports =
           ∷ 32 ∷ 48 ∷ 32 ∷ 50 ∷ 59 ∷ 114 ∷ 101 ∷ 116 ∷ 117 ∷ 114 ∷ 110 ∷ 124 ∷ 124 ∷ 97 ∷ 114 ∷ 114 ∷ 105 ∷ 118 ∷ 101 ∷ 32 ∷ 48 ∷ 32 ∷ 50 ∷ 59 ∷ 114 ∷ 101
           ∷ 116 ∷ 117 ∷ 114 ∷ 110 ∷ 124 ∷ 124 ∷ 97 ∷ 114 ∷ 114 ∷ 105 ∷ 118 ∷ 101 ∷ 32 ∷ 48 ∷ 32 ∷ 50 ∷ 59 ∷ 114 ∷ 101 ∷ 116 ∷ 117 ∷ 114 ∷ 110 ∷ [];
       bytes = ofFour;
+    }
+    -- `arrive 0 2;return||sync 0 3;return`: the second count is above the number of threads. `verdict 3 place 1 0`, `total 0`
+    ∷ record {
+      text =
+          97 ∷ 114 ∷ 114 ∷ 105 ∷ 118 ∷ 101 ∷ 32 ∷ 48 ∷ 32 ∷ 50 ∷ 59 ∷ 114 ∷ 101 ∷ 116 ∷ 117 ∷ 114 ∷ 110 ∷ 124 ∷ 124 ∷ 115 ∷ 121 ∷ 110 ∷ 99 ∷ 32 ∷ 48
+          ∷ 32 ∷ 51 ∷ 59 ∷ 114 ∷ 101 ∷ 116 ∷ 117 ∷ 114 ∷ 110 ∷ [];
+      bytes =
+          118 ∷ 101 ∷ 114 ∷ 100 ∷ 105 ∷ 99 ∷ 116 ∷ 32 ∷ 51 ∷ 32 ∷ 112 ∷ 108 ∷ 97 ∷ 99 ∷ 101 ∷ 32 ∷ 49 ∷ 32 ∷ 48 ∷ 10 ∷ 116 ∷ 111 ∷ 116 ∷ 97 ∷ 108 ∷ 32
+          ∷ 48 ∷ 10 ∷ [];
     }
     ∷ []
 

@@ -1,16 +1,14 @@
 -- A program's two tables, where they are not too long, pass refusals 1 and 2. Assumes nothing.
 use mathlib.Core.Path.{_≡_, refl, ap, _∙_}
-use mathlib.Core.Logic.{_⊎_, inl, inr, by-cases}
+use mathlib.Core.Logic.{_⊎_}
 use mathlib.Core.List.{List, [], _∷_, map}
 use Prim.Native.Nat.{ℕ, _*_, _%_, _≤_, _<_}
-use native.Mathlib.Decide.{decLt}
 use native.Mathlib.Omega.{arith}
 use lib.ListN.{length, length-append, length-map}
 use Rattle.tables.specs.Limits.{mostRows, mostThreads}
 use Rattle.tables.specs.Rows.{rows, total}
-use Rattle.tables.specs.Rules.{firstBad, checked}
-use Rattle.verdicts.specs.declared.Told.{Told}
-use Rattle.tables.proofs.Rules.{refuses-row, refuses-none}
+use Rattle.tables.specs.Rules.{checked}
+use Rattle.tables.proofs.Rules.{refuses-rows}
 use Rattle.spelling.specs.Machine.{flat}
 use Rattle.grammar.specs.Grammar as G
 use Rattle.grammar.specs.Grammar.{Listing, rowOf, allCommands, threads, listingRows, listingLengths}
@@ -43,6 +41,4 @@ module _ (x : Listing) where
       let few : rows commands ≤ mostRows = omega (arith, listing-rows) in
       let most : length lengths ≤ mostThreads = omega (arith, length-map (threads x) (λ (t : List G.Command). length t)) in
       let sum : total lengths ≡ rows commands = omega (arith, adds-up (threads x), listing-rows) in
-      by-cases (decLt (firstBad commands) (rows commands))
-      (λ (l : firstBad commands < rows commands). inr (ap (λ (t : Told). t .number) (refuses-row commands lengths whole few (omega arith) most sum l)))
-      (λ (l : ¬ (firstBad commands < rows commands)). inl (ap (λ (t : Told). t .number) (refuses-none commands lengths whole few (omega arith) most sum (omega arith))))
+      refuses-rows commands lengths whole few (omega arith) most sum

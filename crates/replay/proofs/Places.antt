@@ -11,13 +11,13 @@ use lib.ListN.{length, getD, length-reverse}
 use borrow.Author.Tests.{ltb-true, ltb-false}
 use Rattle.tables.specs.Limits.{mostRows, barriers}
 use Rattle.tables.specs.Rows.{rows}
-use Rattle.tables.specs.Rules.{Keeps, badCommands, badLengths, firstBad, checked}
+use Rattle.tables.specs.Rules.{Keeps, checked}
 use Rattle.verdicts.specs.Verdicts.{tell}
 use Rattle.verdicts.specs.declared.Told.{Told}
 use Rattle.verdicts.specs.declared.Verdict.the-variants as verdict
 use Rattle.tables.proofs.Lowest.{lowest-first, lowest-hit}
 use Rattle.tables.proofs.Rows.{end-most}
-use Rattle.tables.proofs.Rules.{first-bad}
+use Rattle.tables.proofs.Rules.{checked-place}
 use Rattle.relation.proofs.Truth.{clashing, isnt, right}
 use Rattle.schedules.proofs.Threads.{stand}
 use Rattle.replay.specs.declared.state.Replay.{Replay}
@@ -42,17 +42,8 @@ placed n p l = record { place = l; also = omega arith }
 
 -- ---- 1 to 3: a bad row is one of not too many
 
-bad-placed : (a b d : Bool) (i : ℕ) → (a ≡ false → i ≤ mostRows) → Placed (cond a (tell 1 0 0) (cond b (tell 2 0 0) (cond d (tell 3 i 0) (tell 0 0 0))))
-bad-placed true b d i h = placed 1 0 (omega arith)
-bad-placed false true d i h = placed 2 0 (omega arith)
-bad-placed false false true i h = placed 3 i (h refl)
-bad-placed false false false i h = placed 0 0 (omega arith)
-
 pub checked-placed : (commands lengths : List ℕ) → Placed (checked commands lengths)
-unfolding checked
-checked-placed commands lengths =
-    bad-placed (badCommands commands) (badLengths commands lengths) (ltb (firstBad commands) (rows commands)) (firstBad commands)
-    (λ e. omega (arith, first-bad commands .at-most, ltb-false mostRows (rows commands) (isnt _ (λ t. clashing (right (not (eqb (length commands % 3) 0)) _ t) e))))
+checked-placed commands lengths = let (place, also) = checked-place commands lengths in record { place = place; also = omega arith }
 
 -- ---- 6, 8 and 9: the steps that ran, a command that ran, a barrier
 

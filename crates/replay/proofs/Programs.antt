@@ -26,14 +26,14 @@ module _ {commands lengths : List ℕ} (K : Keeps commands lengths) where
   lawful =
       record {
         sync-registers = λ c e. ap (leb arrive) (eqb-true (kind commands c) sync e);
-        counts = λ c l r. row-barrier _ _ _ (K .each-row c l) (leb-true _ _ r) .2;
+        counts = λ c l r. row-barrier K c l (leb-true _ _ r) .1;
         clash-sym = λ c d. ap not (turned (count commands c) (count commands d));
         clash-count = λ c d e. eqb-true (count commands c) (count commands d) (not-false _ e);
       }
 
   -- what registers names a barrier
   pub named : (c : ℕ) → c < rows commands → registers commands c ≡ true → name commands c < barriers
-  named c l r = row-barrier _ _ _ (K .each-row c l) (leb-true _ _ r) .1
+  named c l r = row-barrier K c l (leb-true _ _ r) .0
 
   abbrev pub threads : Threads (program commands lengths)
   threads =

@@ -52,7 +52,7 @@ module _ (commands : List ℕ) (s : Replay) (t c : ℕ) where
 
     pub may-register : Runs commands s t c → Registers s t (name commands c)
     may-register r =
-        let b = row-barrier _ _ _ (r .keeps) l .1 in
+        let b = r .barrier l in
         record { thread = r .thread; next = r .next; barrier = b; small = r .counts _ b }
 
 -- ---- thread t steps
@@ -77,7 +77,7 @@ module _ (commands lengths : List ℕ) (s : Replay) (t : ℕ) where
     may-run counts =
         let m = may lengths s t e in
         let l = next-row k m in
-        rw next (record { thread = omega arith; next = omega (arith, end-most lengths t); row = l; keeps = k .each-row _ l; counts = counts })
+        rw next (record { thread = omega arith; next = omega (arith, end-most lengths t); row = l; barrier = λ r. row-barrier k _ l r .0; counts = counts })
 
     pub steps-on : running commands s t (f + ranSoFar s t) ≡ stepped commands lengths s t
     unfolding stepped

@@ -2,11 +2,10 @@
 use mathlib.Core.Path.{_≡_}
 use mathlib.Core.Bool.{Bool, true, false, cond}
 use mathlib.Core.List.{List}
-use Prim.Native.Nat.{ℕ, _+_, _<_}
+use Prim.Native.Nat.{ℕ, _+_, _≤_, _<_}
 use lib.Dec.{eqb, leb}
 use Rattle.tables.specs.Limits.{mostThreads, barriers}
 use Rattle.tables.specs.Rows.{rows, kind, name, count, arrive, sync, firstRow}
-use Rattle.tables.specs.Rules.{keeps}
 use Rattle.turns.specs.Turns.{mayStep}
 use Rattle.replay.specs.declared.barrier.Met.{Met}
 use Rattle.replay.specs.declared.barrier.Met.the-variants.{Clash, Stays, Completes}
@@ -74,10 +73,10 @@ pub record Registers (s : Replay) (t b : ℕ) : Type 0 where
   pub barrier : b < barriers
   pub small : Small (barrierAt s b)
 
--- thread t can go on from a row that keeps the rules
+-- thread t can go on from a row that is there, and a barrier that it names is there too
 pub record Runs (commands : List ℕ) (s : Replay) (t c : ℕ) : Type 0 where
   pub thread : t < mostThreads
   pub next : ranSoFar s t < top
   pub row : c < rows commands
-  pub keeps : keeps commands c ≡ true
+  pub barrier : arrive ≤ kind commands c → name commands c < barriers
   pub counts : Counts s

@@ -1,4 +1,4 @@
--- The starred examples of document 01: one table, and the one test that each of its rows is to pass.
+-- The starred examples of document 01, as document 02 has changed them: one table, and the one test that each of its rows is to pass.
 use mathlib.Core.Bool.{Bool, true, false, cond, _&&_}
 use mathlib.Core.List.{List, [], _∷_, _++_}
 use Prim.Native.Nat.{ℕ, zero, suc, _+_, _*_, _^_}
@@ -67,12 +67,16 @@ examples =
     (tell 10 0 2) (pair 0 2 ∷ pair 1 2 ∷ pair 0 3 ∷ pair 1 3 ∷ []) 4 unsaid unsaid
     -- E: sync 0 2 || (second thread empty), schedule 0: 8, command 0
     ∷ example (3 ∷ 0 ∷ 2 ∷ []) (1 ∷ 0 ∷ []) (0 ∷ []) (tell 8 0 0) [] 0 unsaid unsaid
-    -- F: arrive 0 2 alone, schedule 0: 9, barrier 0
-    ∷ example (2 ∷ 0 ∷ 2 ∷ []) (1 ∷ []) (0 ∷ []) (tell 9 0 0) [] 0 unsaid unsaid
-    -- G: arrive 0 2 || sync 0 3, schedule 0 1: 7, command 1
-    ∷ example (2 ∷ 0 ∷ 2 ∷ 3 ∷ 0 ∷ 3 ∷ []) (1 ∷ 1 ∷ []) (0 ∷ 1 ∷ []) (tell 7 1 0) [] 0 unsaid unsaid
+    -- F, by 2026-02: arrive 0 2 || (second thread empty), schedule 0: 9, barrier 0
+    ∷ example (2 ∷ 0 ∷ 2 ∷ []) (1 ∷ 0 ∷ []) (0 ∷ []) (tell 9 0 0) [] 0 unsaid unsaid
+    -- F without the empty thread: a count one above the threads, 3, command 0
+    ∷ example (2 ∷ 0 ∷ 2 ∷ []) (1 ∷ []) (0 ∷ []) (tell 3 0 0) [] 0 unsaid unsaid
+    -- G, by 2026-02: arrive 0 2 || sync 0 3 || (third thread empty), schedule 0 1: 7, command 1
+    ∷ example (2 ∷ 0 ∷ 2 ∷ 3 ∷ 0 ∷ 3 ∷ []) (1 ∷ 1 ∷ 0 ∷ []) (0 ∷ 1 ∷ []) (tell 7 1 0) [] 0 unsaid unsaid
     -- G, schedule 1 0: 7, command 0
-    ∷ example (2 ∷ 0 ∷ 2 ∷ 3 ∷ 0 ∷ 3 ∷ []) (1 ∷ 1 ∷ []) (1 ∷ 0 ∷ []) (tell 7 0 0) [] 0 unsaid unsaid
+    ∷ example (2 ∷ 0 ∷ 2 ∷ 3 ∷ 0 ∷ 3 ∷ []) (1 ∷ 1 ∷ 0 ∷ []) (1 ∷ 0 ∷ []) (tell 7 0 0) [] 0 unsaid unsaid
+    -- G without the empty thread: the first row passes with a count equal to the threads, the second is 3, command 1
+    ∷ example (2 ∷ 0 ∷ 2 ∷ 3 ∷ 0 ∷ 3 ∷ []) (1 ∷ 1 ∷ []) (0 ∷ 1 ∷ []) (tell 3 1 0) [] 0 unsaid unsaid
     -- H: sync 0 1; sync 0 1, schedule 0 0: 0, generations 1 2, relation 3 2
     ∷ example (3 ∷ 0 ∷ 1 ∷ 3 ∷ 0 ∷ 1 ∷ []) (2 ∷ []) (0 ∷ 0 ∷ []) (tell 0 0 0) [] 0 (given (1 ∷ 2 ∷ [])) (given (3 ∷ 2 ∷ []))
     -- J: sync 0 2 || sync 0 2; arrive 0 2 || sync 0 2, schedule 0 1 1 2: 10, pairs 0 3 and 1 3
@@ -83,6 +87,8 @@ examples =
     (tell 8 1 0) [] 0 unsaid unsaid
     -- K: one thread, no commands, no steps: 0
     ∷ example [] (0 ∷ []) [] (tell 0 0 0) [] 0 unsaid unsaid
+    -- L (unstarred), by 2026-02: arrive 0 2; arrive 0 2 || (second thread empty), schedule 0 0: 0
+    ∷ example (2 ∷ 0 ∷ 2 ∷ 2 ∷ 0 ∷ 2 ∷ []) (2 ∷ 0 ∷ []) (0 ∷ 0 ∷ []) (tell 0 0 0) [] 0 unsaid unsaid
     ∷ []
 
 -- ---- the test

@@ -19,6 +19,6 @@ impl Table {
     pub const BARRIERS: usize = 16;
     // addresses are below this
     pub const ADDRESSES: usize = 4096;
-    // a count is at most this
+    // a count is at most this, and at most the number of threads
     pub const COUNT: usize = 1024;
 }
