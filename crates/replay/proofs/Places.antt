@@ -2,13 +2,13 @@
 -- long a written one is, and what its entries are. Assumes nothing.
 use mathlib.Core.Path.{_≡_, refl}
 use mathlib.Core.Logic.{_⊎_, inl, inr, ⊎-elim}
-use mathlib.Core.Bool.{Bool, true, false, cond, not}
+use mathlib.Core.Bool.{Bool, true, false, cond}
 use mathlib.Core.List.{List, [], _∷_, reverse}
-use Prim.Native.Nat.{ℕ, zero, suc, _%_, _≤_, _<_}
+use Prim.Native.Nat.{ℕ, zero, suc, _≤_, _<_}
 use native.Mathlib.Omega.{arith}
-use lib.Dec.{eqb, ltb}
+use lib.Dec.{ltb}
 use lib.ListN.{length, getD, length-reverse}
-use borrow.Author.Tests.{ltb-true, ltb-false}
+use borrow.Author.Tests.{ltb-true}
 use Rattle.tables.specs.Limits.{mostRows, barriers}
 use Rattle.tables.specs.Rows.{rows}
 use Rattle.tables.specs.Rules.{Keeps, checked}
@@ -18,7 +18,7 @@ use Rattle.verdicts.specs.declared.Verdict.the-variants as verdict
 use Rattle.tables.proofs.Lowest.{lowest-first, lowest-hit}
 use Rattle.tables.proofs.Rows.{end-most}
 use Rattle.tables.proofs.Rules.{checked-place}
-use Rattle.relation.proofs.Truth.{clashing, isnt, right}
+use Rattle.relation.proofs.Truth.{clashing, isnt}
 use Rattle.schedules.proofs.Threads.{stand}
 use Rattle.replay.specs.declared.state.Replay.{Replay}
 use Rattle.replay.specs.State.{start}

@@ -1,4 +1,4 @@
--- `Replay::step` meets its contract: a thread that may step has a row, and the row keeps the rules. Assumes nothing.
+-- `Replay::step` meets its contract: a thread that may step has a row, and a barrier that the row names is there. Assumes nothing.
 use mathlib.Core.Path.{_∙_}
 use borrow.Author.Needs.{needs}
 use borrow.Author.Tests.{not-true, not-false}
