@@ -32,7 +32,7 @@ enum { ANSWER = 36, WORDS = ROWS * ROWS / 32, EVIDENCE = 32 * ROWS, OFTEN = 10 }
 enum door { REVIEW, SCHEDULE, READING, TEXTS, EXHIBITS, CLOSING, DOORS };
 enum mark { PAST_SIXTEEN, FULL_TABLE, ALL_THREADS, WRAPPED, BYTES, COMMANDS, MANY_THREADS, ROOM, MANY_ROWS, WIDE_ROWS, DIGIT_0, DIGIT_1, DIGIT_2, DIGIT_4, LOWER_0, LOWER_1, TABLES_FIRST,
             LONG_REUSE, LONG_RACES, TO_THE_LAST, FULL_REPORT, AGAIN, ORDERED, ALL_MEET, READ_ABOVE, LINE_0, LINE_7, LINE_8, ALL_LINES, FAR_LINES, MARKS };
-enum limit { EQUAL, ABOVE_ROWS, BY_EMPTY, ONE_ABOVE, WITHIN_ROWS, PAST_64, OLD_FIRST, NEW_FIRST, LIMITS };
+enum limit { EQUAL, EQUAL_64, ABOVE_ROWS, BY_EMPTY, ONE_ABOVE, ABOVE_64, WITHIN_ROWS, PAST_64, OLD_FIRST, NEW_FIRST, LIMITS };
 
 static const char *const doors[DOORS] = {"probe_review", "probe_schedule", "probe_read", "review_text", "review_text_evidence", "probe_close"};
 static const char *const marks[MARKS] = {"a sheet past sixteen pairs", "a review of over 500 rows up to 0, 10 or 11", "a review of 64 threads up to 0, 10 or 11",
@@ -43,9 +43,10 @@ static const char *const marks[MARKS] = {"a sheet past sixteen pairs", "a review
                                          "all schedules agree and a barrier is used again", "all schedules agree and a barrier orders a conflict",
                                          "all schedules agree and a count is that of the threads", "a reading of counts above the threads",
                                          "the line of another generation", "the line of 7", "the line of 8", "the lines of sixteen races", "printed evidence of over 100 rows"};
-/* What 2026-02 decides, at each door that refuses by it: three that pass 1 to 3, and five of 3. An old rule is one of document 01. */
-static const char *const limits[LIMITS] = {"past 3, a count equal to the threads", "past 3, a count above the rows", "past 3, a count above the threads that are not empty",
-                                           "3 for a count one above the threads", "3 for a count above the threads and not above the rows", "3 for a count over 64, up to 1,024",
+/* What 2026-02 decides, at each door that refuses by it: four that pass 1 to 3, and six of 3. An old rule is one of document 01. */
+static const char *const limits[LIMITS] = {"past 3, a count equal to the threads", "past 3, a count of 64 and as many threads", "past 3, a count above the rows",
+                                           "past 3, a count above the threads that are not empty", "3 for a count one above the threads", "3 for a count of 65 and one thread fewer",
+                                           "3 for a count above the threads and not above the rows", "3 for a count over 64, up to 1,024",
                                            "3 at an old rule, a count above the threads in a later row", "3 at a count above the threads, an old rule broken in a later row"};
 /* The answers that each door has to give OFTEN. */
 static const uint32_t answers[DOORS] = {0x4fff, 0x401f, 0x7001, 0x7f89, 0x7f89, 0x3};
@@ -334,6 +335,7 @@ static void mark_passed(const struct tables *tables)
     for (size_t t = 0; t < tables->threads; t++)
         busy += tables->lengths[t] > 0;
     met[door][EQUAL] += largest == tables->threads;
+    met[door][EQUAL_64] += largest == THREADS;
     met[door][ABOVE_ROWS] += largest > rows_of(tables);
     met[door][BY_EMPTY] += largest > busy;
 }
@@ -348,6 +350,7 @@ static void mark_refused(const struct tables *tables, size_t place)
         new_later |= keeps_rules(later) && is_above_threads(tables, later);
     }
     met[door][ONE_ABOVE] += is_new && row[2] == tables->threads + 1;
+    met[door][ABOVE_64] += is_new && tables->threads == THREADS && row[2] == THREADS + 1;
     met[door][WITHIN_ROWS] += is_new && row[2] <= rows_of(tables);
     met[door][PAST_64] += is_new && row[2] > THREADS;
     met[door][OLD_FIRST] += !is_new && new_later;
@@ -660,6 +663,8 @@ static void try_close(size_t rows, size_t words, uint32_t asked)
 static void hold_to_demand_3(const struct tables *tables, const uint32_t *steps, size_t n, const struct common *all)
 {
     uint32_t verdict = try_review(tables, steps, n, just_enough(rows_of(tables)), ANSWER);
+    if (verdict >= 1 && verdict <= 4)
+        fail("demand 3, that tables and rooms pass: the verdict", (long)verdict, 0, 1);
     int offered = is_legal_complete(tables, steps, n);
     int agree = offered && all->agree, one_order = agree && all->one_order;
     if ((verdict == 0 || verdict == 11) != agree)

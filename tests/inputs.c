@@ -444,15 +444,16 @@ static uint32_t *barrier_row(struct random *random, struct program *program)
 static uint32_t count_about(struct random *random, const struct program *program)
 {
     uint32_t threads = (uint32_t)program->threads, rows = (uint32_t)(program->numbers / 3);
-    switch (below(random, 6)) {
+    switch (below(random, 7)) {
     case 0:
-        return threads;
     case 1:
+        return threads;
     case 2:
-        return threads + 1;
     case 3:
-        return rows;
+        return threads + 1;
     case 4:
+        return rows;
+    case 5:
         return threads < THREADS ? threads + 1 + below(random, THREADS - threads) : LAST_COUNT;
     default:
         return threads + 1 + below(random, LAST_COUNT - threads);
@@ -503,6 +504,8 @@ void strain_counts(struct random *random, struct program *program)
 {
     if (program->numbers == 0)
         return;
+    for (int to_the_last = chance(random, 20); to_the_last && program->threads < THREADS;)
+        add_empty_thread(random, program);
     uint32_t count = count_about(random, program);
     switch (below(random, 8)) {
     case 0:
