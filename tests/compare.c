@@ -429,7 +429,7 @@ static void try_schedule(const struct tables *tables, size_t steps_room, size_t 
     end_call(got, expected.verdict.number);
 }
 
-/* "Reads" does not mean "keeps the rules": 3 is for reviews and the schedule writer. */
+/* A reading tells which tables a text denotes, and no more: 3 is for reviews and the schedule writer. */
 static int has_above(const struct reading *reading)
 {
     struct tables tables = {reading->rows, 3 * reading->commands, reading->lengths, reading->threads};
