@@ -104,7 +104,8 @@ static void lay_out(struct random *random, struct program *program)
         memcpy(program->commands + program->numbers, draft.row[t], draft.lengths[t] * sizeof draft.row[t][0]);
         program->numbers += 3 * (size_t)draft.lengths[t];
     }
-    for (uint32_t largest = largest_count(program); program->threads < largest && program->threads < THREADS;)
+    uint32_t largest = largest_count(program);
+    while (program->threads < largest && program->threads < THREADS)
         add_empty_thread(random, program);
 }
 
@@ -504,7 +505,8 @@ void strain_counts(struct random *random, struct program *program)
 {
     if (program->numbers == 0)
         return;
-    for (int to_the_last = chance(random, 20); to_the_last && program->threads < THREADS;)
+    int to_the_last = chance(random, 20);
+    while (to_the_last && program->threads < THREADS)
         add_empty_thread(random, program);
     uint32_t count = count_about(random, program);
     switch (below(random, 8)) {
