@@ -7,9 +7,9 @@
  *   compare SEED COUNT FIRST   COUNT cases from number FIRST on, to repeat a failure
  *
  * After each call every answer, every word of every lent room and the bytes beside it are compared. It ends with one line of figures, or with status 1 at the first
- * difference, which it tells with the seed, the number and the input; also if some verdict, or something else that is to be tried, came up too seldom. The last figure is of
- * request 2026-02: calls of a review, of the schedule writer and of the text reviews that got as far as 3 and there met an arrive or a sync of a count equal to the threads
- * or one above, every other rule kept up to there.
+ * difference, which it tells with the seed, the number and the input; also if some verdict, or something else that is to be tried, came up too seldom. The figure of inputs with
+ * a count equal to the threads or one above, request 2026-02, is of calls of a review, of the schedule writer and of the text reviews that got as far as 3 and there met such an
+ * arrive or sync, every other rule kept by it.
  */
 #define _POSIX_C_SOURCE 200809L
 #include <signal.h>
@@ -854,8 +854,8 @@ static void print_figures(void)
         all += calls[d];
     printf("%lu inputs: %lu reviews, %lu schedules to write, %lu readings, %lu text reviews, %lu with evidence, %lu closings; of %lu programs all %lu schedules;", all, calls[REVIEW],
            calls[SCHEDULE], calls[READING], calls[TEXTS], calls[EXHIBITS], calls[CLOSING], programs, schedules);
-    printf(" evidence checked of %lu reuse faults and %lu races, and as printed of %lu and %lu;", evident[0], evident[1], printed[0], printed[1]);
-    printf(" %lu inputs with a count equal to the threads or one above\n", at_limit);
+    printf(" %lu inputs with a count equal to the threads or one above;", at_limit);
+    printf(" evidence checked of %lu reuse faults and %lu races, and as printed of %lu and %lu\n", evident[0], evident[1], printed[0], printed[1]);
 }
 
 /* With COMPARE_DETAILS set: how often each answer and each mark came. */
