@@ -1,5 +1,5 @@
 /*
- * The review of document 01 as one writes it in C from the page: tables, replay, edges, Warshall's closing by whole words, then every pair for
+ * The review of documents 01 and 02 as one writes it in C from the page: tables, replay, edges, Warshall's closing by whole words, then every pair for
  * faults, and the schedules that show them. It is neither slow on purpose nor clever, as the benchmark compares the archive with it. tests/reference.c is another program, slower and
  * simpler, to which the tests hold the archives.
  */
@@ -40,11 +40,12 @@ static uint32_t verdict(struct review *review, uint32_t number, size_t p)
 
 /* ---- refusals 1 to 4 */
 
-static int keeps_rules(const uint32_t *row)
+/* No count may be above the number of threads (document 02). */
+static int keeps_rules(const uint32_t *row, size_t threads)
 {
     if (row[0] == READ || row[0] == WRITE)
         return row[1] <= LAST_ADDRESS && row[2] == 0;
-    return (row[0] == ARRIVE || row[0] == SYNC) && row[1] < BARRIERS && row[2] >= 1 && row[2] <= LAST_COUNT;
+    return (row[0] == ARRIVE || row[0] == SYNC) && row[1] < BARRIERS && row[2] >= 1 && row[2] <= LAST_COUNT && row[2] <= threads;
 }
 
 static uint32_t check_tables(struct review *review, size_t numbers)
@@ -59,7 +60,7 @@ static uint32_t check_tables(struct review *review, size_t numbers)
     if (sum != review->rows)
         return verdict(review, 2, 0);
     for (size_t c = 0; c < review->rows; c++)
-        if (!keeps_rules(review->commands + 3 * c))
+        if (!keeps_rules(review->commands + 3 * c, review->threads))
             return verdict(review, 3, c);
     return 0;
 }

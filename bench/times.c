@@ -179,12 +179,12 @@ static void ring(struct task *task, uint32_t t)
     }
 }
 
-/* All arrive at one barrier again and again, and none waits: with four generations, every two commands of neighbouring ones are a fault. */
+/* All arrive at one barrier again and again, and none waits. Each generation has as many commands as there are threads, and every two of neighbouring ones are a fault. */
 static void reuse(struct task *task, uint32_t t)
 {
     (void)t;
     for (uint32_t k = 0; k < task->length; k++)
-        put(task, "arrive 0 %u; ", task->rows / 4);
+        put(task, "arrive 0 %u; ", task->threads);
 }
 
 /* All write one address, and none waits: every two commands of different threads race. */
@@ -202,7 +202,7 @@ static uint32_t total(const struct task *task)
 {
     switch (task->kind->verdict) {
     case 10:
-        return 3 * (task->rows / 4) * (task->rows / 4);
+        return (task->length - 1) * task->threads * task->threads;
     case 11:
         return task->length * task->length * task->threads * (task->threads - 1) / 2;
     default:

@@ -218,6 +218,12 @@ static void try_edges(void)
     expect("the empty text", "", 0, 192, 12, unfit);
     expect("the empty text and a short report room", "", 0, 191, 14, "");
 
+    const char *met = "sync 0 2; return || sync 0 2; return", *waits = "return || sync 0 2; return", *alone = "read 7; sync 0 2; return";
+    expect("a count of all threads", met, strlen(met), 192, 0, clean);
+    expect("a count of all threads, one of them empty", waits, strlen(waits), 192, 8, "verdict 8 place 0 0\ntotal 0\n");
+    expect("a count above the threads", alone, strlen(alone), 192, 3, "verdict 3 place 1 0\ntotal 0\n");
+    expect("a count above the threads and a short report room", alone, strlen(alone), 191, 14, "");
+
     memset(text, ' ', sizeof text);
     memcpy(text, "return", 6);
     expect("a text of 32,768 bytes", text, 32768, 192, 0, clean);

@@ -1,5 +1,5 @@
 /*
- * Holds the archives to the reference of document 01 (reference.c), the evidence of a review to its words (evidence.c; printed.c where it is printed), and demand 3 to
+ * Holds the archives to the reference of documents 01 and 02 (reference.c), the evidence of a review to its words (evidence.c; printed.c where it is printed), and demand 3 to
  * all schedules of small programs (schedules.c).
  *
  *   compare SEED COUNT         COUNT numbered cases of that seed; each makes a few calls
@@ -7,7 +7,9 @@
  *   compare SEED COUNT FIRST   COUNT cases from number FIRST on, to repeat a failure
  *
  * After each call every answer, every word of every lent room and the bytes beside it are compared. It ends with one line of figures, or with status 1 at the first
- * difference, which it tells with the seed, the number and the input; also if some verdict, or something else that is to be tried, came up too seldom.
+ * difference, which it tells with the seed, the number and the input; also if some verdict, or something else that is to be tried, came up too seldom. The figure of inputs with
+ * a count equal to the threads or one above, request 2026-02, is of calls of a review, of the schedule writer and of the text reviews that got as far as 3 and there met such an
+ * arrive or sync, every other rule kept by it.
  */
 #define _POSIX_C_SOURCE 200809L
 #include <signal.h>
@@ -29,7 +31,8 @@
 enum { ANSWER = 36, WORDS = ROWS * ROWS / 32, EVIDENCE = 32 * ROWS, OFTEN = 10 };
 enum door { REVIEW, SCHEDULE, READING, TEXTS, EXHIBITS, CLOSING, DOORS };
 enum mark { PAST_SIXTEEN, FULL_TABLE, ALL_THREADS, WRAPPED, BYTES, COMMANDS, MANY_THREADS, ROOM, MANY_ROWS, WIDE_ROWS, DIGIT_0, DIGIT_1, DIGIT_2, DIGIT_4, LOWER_0, LOWER_1, TABLES_FIRST,
-            LONG_REUSE, LONG_RACES, TO_THE_LAST, FULL_REPORT, AGAIN, ORDERED, LINE_0, LINE_7, LINE_8, ALL_LINES, FAR_LINES, MARKS };
+            LONG_REUSE, LONG_RACES, TO_THE_LAST, FULL_REPORT, AGAIN, ORDERED, ALL_MEET, READ_ABOVE, LINE_0, LINE_7, LINE_8, ALL_LINES, FAR_LINES, MARKS };
+enum limit { EQUAL, EQUAL_64, ABOVE_ROWS, BY_EMPTY, ONE_ABOVE, ABOVE_64, WITHIN_ROWS, PAST_64, OLD_FIRST, NEW_FIRST, LIMITS };
 
 static const char *const doors[DOORS] = {"probe_review", "probe_schedule", "probe_read", "review_text", "review_text_evidence", "probe_close"};
 static const char *const marks[MARKS] = {"a sheet past sixteen pairs", "a review of over 500 rows up to 0, 10 or 11", "a review of 64 threads up to 0, 10 or 11",
@@ -38,14 +41,22 @@ static const char *const marks[MARKS] = {"a sheet past sixteen pairs", "a review
                                          "4 with digit 0, the evidence room short too", "4 with digit 1, the evidence room short too", "1 to 3, the evidence room short too",
                                          "evidence for 10 of over 100 rows", "evidence for 11 of over 100 rows", "evidence to the room's last number", "a report of sixteen pairs",
                                          "all schedules agree and a barrier is used again", "all schedules agree and a barrier orders a conflict",
+                                         "all schedules agree and a count is that of the threads", "a reading of counts above the threads",
                                          "the line of another generation", "the line of 7", "the line of 8", "the lines of sixteen races", "printed evidence of over 100 rows"};
+/* What 2026-02 decides, at each door that refuses by it: four that pass 1 to 3, and six of 3. An old rule is one of document 01. */
+static const char *const limits[LIMITS] = {"past 3, a count equal to the threads", "past 3, a count of 64 and as many threads", "past 3, a count above the rows",
+                                           "past 3, a count above the threads that are not empty", "3 for a count one above the threads", "3 for a count of 65 and one thread fewer",
+                                           "3 for a count above the threads and not above the rows", "3 for a count over 64, up to 1,024",
+                                           "3 at an old rule, a count above the threads in a later row", "3 at a count above the threads, an old rule broken in a later row"};
 /* The answers that each door has to give OFTEN. */
 static const uint32_t answers[DOORS] = {0x4fff, 0x401f, 0x7001, 0x7f89, 0x7f89, 0x3};
+static const int has_limits[DOORS] = {1, 1, 0, 1, 1, 0};
 
 static unsigned long long seed_given, number;
 static unsigned long calls[DOORS], answered[DOORS][16], marked[MARKS], programs, schedules;
 static unsigned long evident[2], ended[16]; /* reviews whose evidence was checked, for 10 and for 11; how the second schedules of 10 ended */
 static unsigned long printed[2];            /* text reviews whose printed evidence was checked, for 10 and for 11 */
+static unsigned long met[DOORS][LIMITS], at_limit; /* what 2026-02 decided; calls with a count equal to the threads or one above */
 static enum door door;
 static volatile sig_atomic_t is_called; /* the archive's code runs, not the test's */
 static struct random drawn;
@@ -315,6 +326,61 @@ static void mark_review(const struct review *review, size_t rows, size_t threads
     marked[ALL_THREADS] += fills_rooms(review->verdict.number) && threads == THREADS;
 }
 
+static void mark_passed(const struct tables *tables)
+{
+    uint32_t largest = 0;
+    size_t busy = 0;
+    for (size_t c = 0; c < rows_of(tables); c++)
+        largest = tables->commands[3 * c + 2] > largest ? tables->commands[3 * c + 2] : largest;
+    for (size_t t = 0; t < tables->threads; t++)
+        busy += tables->lengths[t] > 0;
+    met[door][EQUAL] += largest == tables->threads;
+    met[door][EQUAL_64] += largest == THREADS;
+    met[door][ABOVE_ROWS] += largest > rows_of(tables);
+    met[door][BY_EMPTY] += largest > busy;
+}
+
+static void mark_refused(const struct tables *tables, size_t place)
+{
+    const uint32_t *row = tables->commands + 3 * place;
+    int is_new = keeps_rules(row), old_later = 0, new_later = 0;
+    for (size_t c = place + 1; c < rows_of(tables); c++) {
+        const uint32_t *later = tables->commands + 3 * c;
+        old_later |= !keeps_rules(later);
+        new_later |= keeps_rules(later) && is_above_threads(tables, later);
+    }
+    met[door][ONE_ABOVE] += is_new && row[2] == tables->threads + 1;
+    met[door][ABOVE_64] += is_new && tables->threads == THREADS && row[2] == THREADS + 1;
+    met[door][WITHIN_ROWS] += is_new && row[2] <= rows_of(tables);
+    met[door][PAST_64] += is_new && row[2] > THREADS;
+    met[door][OLD_FIRST] += !is_new && new_later;
+    met[door][NEW_FIRST] += is_new && old_later;
+}
+
+/* Is there an arrive or a sync of count `threads` or one more, every other rule kept, among the rows that 3 looks at: all of them, or those up to its place? */
+static int is_at_limit(const struct tables *tables, const struct verdict *verdict)
+{
+    size_t rows = verdict->number == 3 ? verdict->p + 1 : rows_of(tables);
+    for (size_t c = 0; c < rows; c++) {
+        const uint32_t *row = tables->commands + 3 * c;
+        if (keeps_rules(row) && (row[2] == tables->threads || row[2] == tables->threads + 1))
+            return 1;
+    }
+    return 0;
+}
+
+/* What 2026-02 decided in this call, of tables that were not refused before it. */
+static void mark_limits(const struct tables *tables, const struct verdict *verdict)
+{
+    if (verdict->number == 1 || verdict->number == 2)
+        return;
+    at_limit += (unsigned long)is_at_limit(tables, verdict);
+    if (verdict->number == 3)
+        mark_refused(tables, verdict->p);
+    else
+        mark_passed(tables);
+}
+
 /* Answers the verdict. */
 static uint32_t try_review(const struct tables *tables, const uint32_t *steps, size_t n, struct rooms lent, size_t told)
 {
@@ -336,6 +402,7 @@ static uint32_t try_review(const struct tables *tables, const uint32_t *steps, s
         must_hold_evidence(tables, &expected, e, a[3]);
     mark_review(&expected, rows_of(tables), tables->threads);
     mark_rooms(&expected, lent, rows_of(tables));
+    mark_limits(tables, &expected.verdict);
     end_call(got, expected.verdict.number);
     return got;
 }
@@ -358,11 +425,23 @@ static void try_schedule(const struct tables *tables, size_t steps_room, size_t 
     memcpy(must_hold(&answer), first, sizeof first);
     memcpy(must_hold(&schedule), expected.steps, expected.length * sizeof *expected.steps);
     marked[DIGIT_2] += expected.verdict.number == 4 && expected.verdict.p == 2;
+    mark_limits(tables, &expected.verdict);
     end_call(got, expected.verdict.number);
+}
+
+/* A reading tells which tables a text denotes, and no more: 3 is for reviews and the schedule writer. */
+static int has_above(const struct reading *reading)
+{
+    struct tables tables = {reading->rows, 3 * reading->commands, reading->lengths, reading->threads};
+    for (size_t c = 0; c < reading->commands; c++)
+        if (is_above_threads(&tables, reading->rows + 3 * c))
+            return 1;
+    return 0;
 }
 
 static void mark_reading(const struct reading *reading, size_t length)
 {
+    marked[READ_ABOVE] += reading->verdict.number == 0 && has_above(reading);
     if (reading->verdict.number != 13)
         return;
     marked[BYTES] += length > TEXT;
@@ -413,6 +492,12 @@ static const uint8_t *lend_text(const uint8_t *bytes, size_t length)
     return lend(&text, bytes, length, 1, chance(&drawn, 50));
 }
 
+static void mark_text(const struct text_review *expected, uint32_t answer)
+{
+    if (answer != 14 && expected->reading.verdict.number == 0)
+        mark_limits(&expected->tables, &expected->review.verdict);
+}
+
 static void try_report(const uint8_t *bytes, size_t length, const struct text_review *expected, size_t report_room)
 {
     char front[2 * REPORT];
@@ -431,6 +516,7 @@ static void try_report(const uint8_t *bytes, size_t length, const struct text_re
     for (size_t i = 0; i < n; i++)
         lines += front[i] == '\n';
     marked[FULL_REPORT] += lines == 2 + KEPT;
+    mark_text(expected, answer);
     end_call(got, answer);
 }
 
@@ -510,6 +596,7 @@ static void try_exhibits(const uint8_t *bytes, size_t length, const struct text_
     uint32_t answer = text_answer(expected, room, PRINTED);
     if (got == answer && answer != 14)
         must_hold_printed(expected, r, room);
+    mark_text(expected, answer);
     end_call(got, answer);
 }
 
@@ -576,6 +663,8 @@ static void try_close(size_t rows, size_t words, uint32_t asked)
 static void hold_to_demand_3(const struct tables *tables, const uint32_t *steps, size_t n, const struct common *all)
 {
     uint32_t verdict = try_review(tables, steps, n, just_enough(rows_of(tables)), ANSWER);
+    if (verdict >= 1 && verdict <= 4)
+        fail("demand 3, that tables and rooms pass: the verdict", (long)verdict, 0, 1);
     int offered = is_legal_complete(tables, steps, n);
     int agree = offered && all->agree, one_order = agree && all->one_order;
     if ((verdict == 0 || verdict == 11) != agree)
@@ -602,6 +691,8 @@ static int wraps(const struct tables *tables)
 
 static void tables_case(int damaged)
 {
+    if (chance(&drawn, 12))
+        strain_counts(&drawn, &program);
     for (uint32_t i = damaged ? 1 + below(&drawn, 2) : 0; i > 0; i--)
         damage_program(&drawn, &program);
     struct tables tables = tables_of(&program);
@@ -638,6 +729,8 @@ static void evidence_case(void)
 
 static void text_case(void)
 {
+    if (chance(&drawn, 12))
+        strain_counts(&drawn, &program);
     for (size_t i = 0; i < program.numbers; i += 3) {
         uint32_t name_or_count = program.commands[i] < ARRIVE ? 1 : 1 + below(&drawn, 2);
         if (below(&drawn, 300) == 0)
@@ -657,20 +750,22 @@ static void close_case(void)
         try_close(0, chance(&drawn, 50) ? words : below(&drawn, ROWS), asked == ROWS ? ROWS + 1 : asked);
 }
 
-/* Agreement is to be tried where it is not plain: where barriers are used again, and where two threads conflict. */
+/* Agreement is to be tried where it is not plain: where barriers are used again, where two threads conflict, and at the largest count that there may be. */
 static void mark_agreement(const struct tables *tables, const struct common *all)
 {
-    int again = 0, ordered = 0;
+    int again = 0, ordered = 0, all_meet = 0;
     uint32_t counted[BARRIERS] = {0};
     for (size_t i = 0; i < rows_of(tables); i++) {
         const uint32_t *row = tables->commands + 3 * i;
         if (row[0] >= ARRIVE)
             again |= ++counted[row[1]] > row[2];
+        all_meet |= row[2] == tables->threads;
         for (size_t j = tables->lengths[0]; i < tables->lengths[0] && j < rows_of(tables); j++)
             ordered |= conflict(tables, i, j);
     }
     marked[AGAIN] += all->agree && again;
     marked[ORDERED] += all->agree && all->one_order && ordered;
+    marked[ALL_MEET] += all->agree && all_meet;
 }
 
 static void all_schedules_case(void)
@@ -744,6 +839,11 @@ static void demand_all(void)
             }
     for (int m = 0; m < MARKS; m++)
         demand_often(marks[m], "", marked[m]);
+    for (int d = 0; d < DOORS; d++)
+        for (int l = 0; has_limits[d] && l < LIMITS; l++) {
+            sprintf(name, "%s: ", doors[d]);
+            demand_often(limits[l], name, met[d][l]);
+        }
 }
 
 /* One line. tests/tools.sh adds up the figures of two processes: no other number may stand in it by itself. */
@@ -754,6 +854,7 @@ static void print_figures(void)
         all += calls[d];
     printf("%lu inputs: %lu reviews, %lu schedules to write, %lu readings, %lu text reviews, %lu with evidence, %lu closings; of %lu programs all %lu schedules;", all, calls[REVIEW],
            calls[SCHEDULE], calls[READING], calls[TEXTS], calls[EXHIBITS], calls[CLOSING], programs, schedules);
+    printf(" %lu inputs with a count equal to the threads or one above;", at_limit);
     printf(" evidence checked of %lu reuse faults and %lu races, and as printed of %lu and %lu\n", evident[0], evident[1], printed[0], printed[1]);
 }
 
@@ -769,6 +870,9 @@ static void print_details(void)
     }
     for (int m = 0; m < MARKS; m++)
         printf("  %s: %lu\n", marks[m], marked[m]);
+    for (int d = 0; d < DOORS; d++)
+        for (int l = 0; has_limits[d] && l < LIMITS; l++)
+            printf("  %s: %s: %lu\n", doors[d], limits[l], met[d][l]);
     printf("  evidence for 10: clean with another generation %lu, ended in 7 %lu, in 8 %lu, in 9 %lu\n", ended[0], ended[7], ended[8], ended[9]);
 }
 

@@ -76,7 +76,26 @@ static void put(uint32_t thread, uint32_t kind, uint32_t name, uint32_t count)
     draft.rows++;
 }
 
-static void lay_out(struct program *program)
+static uint32_t largest_count(const struct program *program)
+{
+    uint32_t largest = 0;
+    for (size_t i = 0; i < program->numbers; i += 3)
+        if (program->commands[i + 2] > largest)
+            largest = program->commands[i + 2];
+    return largest;
+}
+
+/* Before the other threads, between two of them, or after them. */
+static void add_empty_thread(struct random *random, struct program *program)
+{
+    size_t at = below(random, (uint32_t)program->threads + 1);
+    memmove(program->lengths + at + 1, program->lengths + at, (program->threads - at) * sizeof *program->lengths);
+    program->lengths[at] = 0;
+    program->threads++;
+}
+
+/* A count above the threads is refused: where one was drafted, empty threads let the program pass and keep what it was drafted for. */
+static void lay_out(struct random *random, struct program *program)
 {
     program->threads = draft.threads;
     program->numbers = 0;
@@ -85,6 +104,9 @@ static void lay_out(struct program *program)
         memcpy(program->commands + program->numbers, draft.row[t], draft.lengths[t] * sizeof draft.row[t][0]);
         program->numbers += 3 * (size_t)draft.lengths[t];
     }
+    uint32_t largest = largest_count(program);
+    while (program->threads < largest && program->threads < THREADS)
+        add_empty_thread(random, program);
 }
 
 static void put_access(struct random *random, const struct style *style, uint32_t thread)
@@ -169,7 +191,7 @@ static void spoil(struct random *random)
         row[1] = below(random, 3);
         break;
     default:
-        row[2] = row[0] < ARRIVE ? 0 : row[2] == 1 || chance(random, 50) ? row[2] + 1 : row[2] - 1;
+        row[2] = row[0] < ARRIVE ? 0 : row[2] < THREADS && (row[2] == 1 || chance(random, 50)) ? row[2] + 1 : row[2] - 1;
     }
 }
 
@@ -269,7 +291,7 @@ void small_program(struct random *random, uint32_t most, struct program *program
     begin(1 + below(random, 6), most);
     draft_program(random, below(random, most + 1));
     rename_all(random);
-    lay_out(program);
+    lay_out(random, program);
 }
 
 void faulty_program(struct random *random, uint32_t threads, uint32_t most, struct program *program)
@@ -290,7 +312,7 @@ void faulty_program(struct random *random, uint32_t threads, uint32_t most, stru
     while (chance(random, 70) && draft.rows < draft.most)
         put_access(random, &style, below(random, draft.threads));
     rename_all(random);
-    lay_out(program);
+    lay_out(random, program);
 }
 
 void big_program(struct random *random, struct program *program)
@@ -300,7 +322,7 @@ void big_program(struct random *random, struct program *program)
     draft_program(random, most);
     for (uint32_t t = 0; chance(random, 99) && draft.rows < draft.most; t = (t + 1) % draft.threads)
         put(t, READ, below(random, LAST_ADDRESS + 1), 0);
-    lay_out(program);
+    lay_out(random, program);
 }
 
 void over_program(struct random *random, struct program *program)
@@ -311,7 +333,7 @@ void over_program(struct random *random, struct program *program)
     draft_program(random, below(random, 100));
     while (draft.rows < rows)
         put(below(random, draft.threads), WRITE, draft.rows % 10, 0);
-    lay_out(program);
+    lay_out(random, program);
 }
 
 /* ---- damaged tables */
@@ -321,10 +343,11 @@ static uint32_t *any_length(struct random *random, struct program *program)
     return &program->lengths[program->threads == 0 ? 0 : below(random, (uint32_t)program->threads)];
 }
 
-/* One row gets numbers at the limits, such as 4,096 for an address or 1,025 for a count. */
+/* One row gets numbers at the limits, such as 4,096 for an address, or the number of threads or 1,025 for a count. */
 static void damage_row(struct random *random, struct program *program)
 {
-    static const uint32_t names[2][4] = {{0, 4095, 4096, 4097}, {0, 15, 16, 17}}, counts[2][4] = {{0, 0, 0, 1}, {0, 1, 1024, 1025}};
+    uint32_t threads = (uint32_t)program->threads;
+    const uint32_t names[2][4] = {{0, 4095, 4096, 4097}, {0, 15, 16, 17}}, counts[2][6] = {{0, 0, 0, 0, 1, 1}, {0, 1, threads, threads + 1, 1024, 1025}};
     if (program->numbers < 3)
         return;
     uint32_t *row = program->commands + 3 * (size_t)below(random, (uint32_t)program->numbers / 3);
@@ -335,7 +358,7 @@ static void damage_row(struct random *random, struct program *program)
     }
     row[0] = below(random, 4);
     row[1] = chance(random, 50) ? 1 : names[row[0] / 2][below(random, 4)];
-    row[2] = chance(random, 50) ? row[0] / 2 : counts[row[0] / 2][below(random, 4)];
+    row[2] = chance(random, 50) ? row[0] / 2 : counts[row[0] / 2][below(random, 6)];
 }
 
 /* The lengths add up to M only if the sum wraps at 32 bits. */
@@ -399,6 +422,107 @@ void damage_program(struct random *random, struct program *program)
     default:
         damage_row(random, program);
         break;
+    }
+}
+
+/* ---- counts about the number of threads */
+
+/* A row of an arrive or a sync, the first from some place on; if there is none, the row there becomes one. */
+static uint32_t *barrier_row(struct random *random, struct program *program)
+{
+    size_t rows = program->numbers / 3, from = below(random, (uint32_t)rows);
+    uint32_t *row = program->commands + 3 * from;
+    for (size_t i = 0; i < rows && row[0] < ARRIVE; i++)
+        row = program->commands + 3 * ((from + i) % rows);
+    if (row[0] < ARRIVE) {
+        row[0] = chance(random, 50) ? ARRIVE : SYNC;
+        row[1] %= BARRIERS;
+    }
+    return row;
+}
+
+/* The threads, which pass; one more; the rows, which are not the threads; or any of the counts above the threads that document 01 let pass. */
+static uint32_t count_about(struct random *random, const struct program *program)
+{
+    uint32_t threads = (uint32_t)program->threads, rows = (uint32_t)(program->numbers / 3);
+    switch (below(random, 7)) {
+    case 0:
+    case 1:
+        return threads;
+    case 2:
+    case 3:
+        return threads + 1;
+    case 4:
+        return rows;
+    case 5:
+        return threads < THREADS ? threads + 1 + below(random, THREADS - threads) : LAST_COUNT;
+    default:
+        return threads + 1 + below(random, LAST_COUNT - threads);
+    }
+}
+
+/* Two neighbours become one thread, so that a count that all could meet is one too many. */
+static void join_threads(struct random *random, struct program *program)
+{
+    if (program->threads < 2)
+        return;
+    size_t t = below(random, (uint32_t)program->threads - 1);
+    program->lengths[t] += program->lengths[t + 1];
+    program->threads--;
+    memmove(program->lengths + t + 1, program->lengths + t + 2, (program->threads - t - 1) * sizeof *program->lengths);
+}
+
+/* Every arrive and sync gets the same count. */
+static void set_counts(struct program *program, uint32_t count)
+{
+    for (size_t i = 0; i < program->numbers; i += 3)
+        if (program->commands[i] >= ARRIVE)
+            program->commands[i + 2] = count;
+}
+
+/* Breaks a rule of document 01, in numbers that a text spells too. A count of 1,025 is above the threads as well. */
+static void break_old_rule(struct random *random, uint32_t *row)
+{
+    if (row[0] < ARRIVE)
+        row[1] = LAST_ADDRESS + 1 + below(random, 2);
+    else if (chance(random, 50))
+        row[1] = BARRIERS + below(random, 2);
+    else
+        row[2] = chance(random, 50) ? 0 : LAST_COUNT + 1;
+}
+
+/* One row's count is above the threads, and another row, before it or after it, breaks an older rule. */
+static void break_two_rows(struct random *random, struct program *program)
+{
+    uint32_t rows = (uint32_t)(program->numbers / 3), *above = barrier_row(random, program);
+    above[2] = (uint32_t)program->threads + 1 + below(random, 3);
+    uint32_t at = (uint32_t)(above - program->commands) / 3;
+    if (rows > 1)
+        break_old_rule(random, program->commands + 3 * ((at + 1 + below(random, rows - 1)) % rows));
+}
+
+void strain_counts(struct random *random, struct program *program)
+{
+    if (program->numbers == 0)
+        return;
+    int to_the_last = chance(random, 20);
+    while (to_the_last && program->threads < THREADS)
+        add_empty_thread(random, program);
+    uint32_t count = count_about(random, program);
+    switch (below(random, 8)) {
+    case 0:
+    case 1:
+        join_threads(random, program);
+        break;
+    case 2:
+        set_counts(program, count);
+        break;
+    case 3:
+    case 4:
+        break_two_rows(random, program);
+        break;
+    default:
+        barrier_row(random, program)[2] = count;
     }
 }
 
@@ -510,26 +634,44 @@ static void spell(const struct program *program)
     }
 }
 
-/* A token is changed to another, or to none; two are exchanged; one is removed or doubled. */
+static void remove_tokens(size_t at, size_t n)
+{
+    memmove(spelled.token[at], spelled.token[at + n], (spelled.n - at - n) * TOKEN);
+    spelled.n -= n;
+}
+
+/* A `return ||` goes, the first from some place on, and with it a thread: what is left is well written. */
+static void remove_thread(struct random *random)
+{
+    size_t at = below(random, (uint32_t)spelled.n);
+    while (at + 1 < spelled.n && (strcmp(spelled.token[at], "return") != 0 || strcmp(spelled.token[at + 1], "||") != 0))
+        at++;
+    if (at + 1 < spelled.n)
+        remove_tokens(at, 2);
+}
+
+/* A token is changed to another, or to none; two are exchanged; one is removed or doubled; a thread goes. */
 static void damage_tokens(struct random *random)
 {
     static const char *const others[] = {"read", "write", "arrive", "sync", "return", ";", "||", "|", "|||", "0", "7", "00", "01", "65535", "65536", "4096", "1025",
                                          "4294967297", "18446744073709551617", "99999999999999999999999999", ",", "reads", "retur", "Read", "-1", "\t", "1a", "a1", ""};
     size_t at = below(random, (uint32_t)spelled.n), other = below(random, (uint32_t)spelled.n);
     char kept[TOKEN];
-    switch (below(random, 4)) {
+    switch (below(random, 5)) {
     case 0:
         strcpy(kept, spelled.token[at]);
         memmove(spelled.token[at], spelled.token[other], TOKEN);
         strcpy(spelled.token[other], kept);
         break;
     case 1:
-        memmove(spelled.token[at], spelled.token[at + 1], (spelled.n - at - 1) * TOKEN);
-        spelled.n--;
+        remove_tokens(at, 1);
         break;
     case 2:
         memmove(spelled.token[at + 1], spelled.token[at], (spelled.n - at) * TOKEN);
         spelled.n++;
+        break;
+    case 3:
+        remove_thread(random);
         break;
     default:
         strcpy(spelled.token[at], others[below(random, sizeof others / sizeof *others)]);

@@ -22,7 +22,7 @@ uint32_t below(struct random *random, uint32_t n);
 int chance(struct random *random, uint32_t percent);
 uint32_t odd_number(struct random *random);
 
-/* 1 to 6 threads, few barriers and counts, at most `most` commands: every verdict comes. */
+/* 1 to 6 threads and the empty ones that the counts ask for, few barriers and counts, at most `most` commands: every verdict past 3 comes. */
 void small_program(struct random *random, uint32_t most, struct program *program);
 
 /* At most so many threads and commands, and often a reuse fault or a race in what else ends clean. */
@@ -36,6 +36,9 @@ void over_program(struct random *random, struct program *program);
 
 /* Row numbers, lengths and both tables' sizes, at and past their limits. */
 void damage_program(struct random *random, struct program *program);
+
+/* Counts at the number of threads and above it, in one row or in all, and rows before or after such a one that break another rule. What comes of it can be spelled. */
+void strain_counts(struct random *random, struct program *program);
 
 /* The writer's schedule, a legal complete one, a damaged one, or any numbers; answers how many steps. */
 size_t make_schedule(struct random *random, const struct tables *tables, uint32_t *steps);

@@ -177,11 +177,11 @@ static void judges(const struct example *x)
 #define TEXT_B "arrive 0 2; write 7; return || read 7; sync 0 2; return", 4, 2, {2, 0, 2, 1, 7, 0, 0, 7, 0, 3, 0, 2}, {2, 2}
 #define TEXT_C "sync 0 2; return || sync 0 2; return||sync 0 2;return\n|| sync 0 2 ; return", 4, 4, {3, 0, 2, 3, 0, 2, 3, 0, 2, 3, 0, 2}, {1, 1, 1, 1}
 #define TEXT_E "sync 0 2; return || return", 1, 2, {3, 0, 2}, {1, 0}
-#define TEXT_F "arrive 0 2; return", 1, 1, {2, 0, 2}, {1}
-#define TEXT_G "arrive 0 2; return || sync 0 3; return", 2, 2, {2, 0, 2, 3, 0, 3}, {1, 1}
+#define TEXT_F "arrive 0 2; return || return", 1, 2, {2, 0, 2}, {1, 0}
+#define TEXT_G "arrive 0 2; return || sync 0 3; return || return", 2, 3, {2, 0, 2, 3, 0, 3}, {1, 1, 0}
 #define TEXT_H "sync 0 1; sync 0 1; return", 2, 1, {3, 0, 1, 3, 0, 1}, {2}
 #define TEXT_K "return", 0, 1, {0}, {0}
-#define TEXT_L "arrive 0 2; arrive 0 2; return", 2, 1, {2, 0, 2, 2, 0, 2}, {2}
+#define TEXT_L "arrive 0 2; arrive 0 2; return || return", 2, 2, {2, 0, 2, 2, 0, 2}, {2, 0}
 #define TEXT_J "sync 0 2; return || sync 0 2; arrive 0 2; return || sync 0 2; return", 4, 3, {3, 0, 2, 3, 0, 2, 2, 0, 2, 3, 0, 2}, {1, 2, 1}
 
 /* Seven threads that write one address; a command of count 1 that may come before or after two of count 2, or between them; two threads that register twice. */
@@ -191,6 +191,13 @@ static void judges(const struct example *x)
 #define TEXT_BETWEEN "arrive 0 1; return || arrive 0 2; arrive 0 2; return", 3, 2, {2, 0, 1, 2, 0, 2, 2, 0, 2}, {1, 2}
 #define TEXT_TWICE "arrive 0 2; arrive 0 2; return || arrive 0 2; arrive 0 2; return", 4, 2, {2, 0, 2, 2, 0, 2, 2, 0, 2, 2, 0, 2}, {2, 2}
 #define TEXT_ALONE "arrive 0 1; arrive 0 1; return", 2, 1, {2, 0, 1, 2, 0, 1}, {2}
+
+/* Request 2026-02: counts of as many as there are threads, the empty ones with them, and of one more. */
+#define TEXT_ALL "sync 0 3; return || sync 0 3; return || sync 0 3; return", 3, 3, {3, 0, 3, 3, 0, 3, 3, 0, 3}, {1, 1, 1}
+#define TEXT_EMPTY "return || arrive 5 3; return || return", 1, 3, {2, 5, 3}, {0, 1, 0}
+#define TEXT_OVER "read 0; return || sync 0 2; sync 0 3; return", 3, 2, {0, 0, 0, 3, 0, 2, 3, 0, 3}, {1, 2}
+#define TEXT_NEW_FIRST "read 0; sync 0 3; return || read 4096; return", 3, 2, {0, 0, 0, 3, 0, 3, 0, 4096, 0}, {2, 1}
+#define TEXT_OLD_FIRST "read 0; read 4096; return || sync 0 3; return", 3, 2, {0, 0, 0, 0, 4096, 0, 3, 0, 3}, {2, 1}
 
 /*
  * Document 01 gives the verdicts, places, pairs and totals, and the rooms of A and H; the rest was worked out by its rules by hand. The fourth number told for
@@ -215,6 +222,11 @@ static const struct example examples[] = {
     {"between", TEXT_BETWEEN, 3, {0, 1, 1}, 10, {0, 1, 2, 0, 0, 1, 0, 2}, 1, {1, 2, 2}, {1, 6, 4}},
     {"twice", TEXT_TWICE, 4, {0, 0, 1, 1}, 10, {0, 2, 4, 0, 0, 2, 1, 2, 0, 3, 1, 3}, 1, {1, 1, 2, 2}, {3, 2, 12, 8}},
     {"alone", TEXT_ALONE, 2, {0, 0}, 0, {0}, 1, {1, 2}, {3, 2}},
+    {"all", TEXT_ALL, 3, {0, 1, 2}, 0, {0}, 1, {1, 1, 1}, {7, 7, 7}},
+    {"empty", TEXT_EMPTY, 1, {1}, 9, {5}, 1, {0}, {0}},
+    {"over", TEXT_OVER, 3, {0, 1, 1}, 3, {2}, 0, {0}, {0}},
+    {"new first", TEXT_NEW_FIRST, 3, {0, 0, 1}, 3, {1}, 0, {0}, {0}},
+    {"old first", TEXT_OLD_FIRST, 3, {0, 0, 1}, 3, {1}, 0, {0}, {0}},
 };
 enum { EXAMPLES = sizeof examples / sizeof *examples };
 
@@ -364,6 +376,31 @@ static void refused_tables(const struct example *x)
     untouched(x);
 }
 
+/* The number of threads passes as a count, with a schedule that then mismatches, and one more is 3, for the schedule writer too. */
+static void refused_counts(const struct example *x)
+{
+    trying = "a count";
+    const uint32_t written[4] = {0, 0, 2, 0}, refused[4] = {1, 0, 0, 0}, before_it[2] = {0, 1};
+    lend_tables(x);
+    at(&commands)[5] = x->threads;
+    refuses(7, 1, LENT, LENT, evidence_numbers(x->rows));
+    lend(&answer, LENT, NULL, 0);
+    lend(&schedule, LENT, NULL, 0);
+    returned(call_schedule(), 0);
+    holds(&answer, written, 4);
+    holds(&schedule, before_it, 2);
+    at(&commands)[5] = x->threads + 1;
+    refuses(3, 1, 0, 0, 0);
+    lend(&answer, LENT, NULL, 0);
+    lend(&schedule, 0, NULL, 0);
+    returned(call_schedule(), 3);
+    holds(&answer, refused, 4);
+    holds(&schedule, NULL, 0);
+    holds(&relation, NULL, 0);
+    holds(&generations, NULL, 0);
+    holds(&evidence, NULL, 0);
+}
+
 static void refused_texts(const struct example *x)
 {
     trying = "a refused text";
@@ -419,6 +456,7 @@ int main(void)
         short_rooms(named("seven"));
         refused_tables(named("C"));
         refused_tables(named("seven"));
+        refused_counts(named("C"));
         refused_texts(named("A"));
         closes();
     }

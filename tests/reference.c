@@ -25,7 +25,7 @@ size_t evidence_numbers(size_t rows)
 }
 
 /* "Names: an address 0 to 4,095 for kinds 0 and 1, a barrier 0 to 15 for kinds 2 and 3. Counts: 0 for kinds 0 and 1; 1 to 1,024 for kinds 2 and 3." */
-static int keeps_rules(const uint32_t *row)
+int keeps_rules(const uint32_t *row)
 {
     switch (row[0]) {
     case READ:
@@ -37,6 +37,12 @@ static int keeps_rules(const uint32_t *row)
     default:
         return 0;
     }
+}
+
+/* 2026-02: "A count above the number of threads in the table can't be meant." Threads are counted by their lengths: "a thread may have none", and is one. */
+int is_above_threads(const struct tables *tables, const uint32_t *row)
+{
+    return row[2] > tables->threads;
 }
 
 /* "The lengths must add up to M as whole numbers, so a sum that wraps doesn't pass." At most 64 of 32 bits are added here: 64 bits hold the sum. */
@@ -63,10 +69,12 @@ struct verdict check_tables(const struct tables *tables)
     /* "2: 0 or over 64 threads, or lengths don't add up to M" */
     if (tables->threads == 0 || tables->threads > THREADS || sum_of_lengths(tables) != rows_of(tables))
         return verdict(2, 0, 0);
-    /* "3: a row breaks the rules above: first such row, 0" */
-    for (size_t c = 0; c < rows_of(tables); c++)
-        if (!keeps_rules(tables->commands + 3 * c))
+    /* "3: a row breaks the rules above: first such row, 0". 2026-02: "Refuse such a row as 3, in the same first-row order, after the existing row rules." */
+    for (size_t c = 0; c < rows_of(tables); c++) {
+        const uint32_t *row = tables->commands + 3 * c;
+        if (!keeps_rules(row) || is_above_threads(tables, row))
             return verdict(3, c, 0);
+    }
     return verdict(0, 0, 0);
 }
 

@@ -80,6 +80,10 @@ struct text_review {
 size_t rows_of(const struct tables *tables);
 size_t relation_words(size_t rows);
 size_t evidence_numbers(size_t rows);
+
+/* The rules of document 01 for a row, and that of 2026-02; `check_tables` tests both, and the tests tell which of them refused. */
+int keeps_rules(const uint32_t *row);
+int is_above_threads(const struct tables *tables, const uint32_t *row);
 struct verdict check_tables(const struct tables *tables);
 
 void start(struct state *state);

@@ -1,8 +1,8 @@
 /*
  * Runs the cases of a file through the doors of include/probe.h and prints a line for each call: the verdict; the numbers found and the rest of the text, or
  * the total and the kept pairs; and what every place of every lent room holds afterwards. Each room is soiled before it is lent, so that what was kept can be told
- * from what was written. What is printed for tests/vectors/cases is compared with tests/vectors/answers, which was worked out from document 01, and where that is
- * open from docs/DECISIONS.md, apart from the code.
+ * from what was written. What is printed for tests/vectors/cases is compared with tests/vectors/answers, which was worked out from documents 01 and 02, and where
+ * these are open from docs/DECISIONS.md, apart from the code.
  *
  * A case is a line:
  *     NAME: COMMANDS / LENGTHS / SIZES               the schedule writer, and the review of what it wrote
