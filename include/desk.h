@@ -43,6 +43,8 @@ extern "C" {
  * These are all the numbers there are. T and the pairs belong to 10 and 11: T is how many pairs there are, and the first sixteen
  * are kept. For every other V, T is 0.
  *
+ * The report is a function of the text. Texts of at most 32768 bytes that write one program with other blanks have the same report.
+ *
  * `text` may hold any bytes, and text_len and report_len may be any lengths; nothing has to be checked before the call. What is asked is what C asks of
  * any such call: text_len bytes from `text` on can be read, report_len bytes from `report` on can be written, the two do not overlap, and no other thread writes
  * to either during the call. Neither pointer may be null, not even with length 0: pass the address of any byte then.

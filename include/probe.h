@@ -37,6 +37,8 @@ extern "C" {
  *                build may write other schedules that show the same
  *   answer       0 and 1: the verdict's two places; 2: the total of faults; 3: how many numbers of evidence were written, 0 for all but 10 and 11; from 4 to
  *                35: both numbers of each of the sheet's sixteen pairs
+ * For one program, any two schedules with 0 or 11 leave the same answer, the same M x ceil(M / 32) words of relation and the same M generations, whatever the rooms (OneFile,
+ * crates/review/specs/Agreement.antt). With 10 these hang on the schedule, and so may evidence.
  */
 uint32_t probe_review(const uint32_t *commands, size_t commands_len, const uint32_t *lengths, size_t lengths_len,
                       const uint32_t *schedule, size_t schedule_len, uint32_t *relation, size_t relation_len,

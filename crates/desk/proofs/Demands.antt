@@ -59,7 +59,7 @@ module _ (text : List ℕ) where
     abbrev l : List ℕ
     l = listingLengths x
 
-    denoted-concluded : ofText text ≡ ofTables n l
+    pub denoted-concluded : ofText text ≡ ofTables n l
     unfolding ofText
     denoted-concluded =
         let z : readAs text .number ≡ 0 = ap (λ (t : Told). t .number) (read-told (denoted-reads text (mostRows * 3) mostThreads x d w)) in

@@ -7,7 +7,7 @@ use native.Mathlib.Decide.{ℕ-discrete}
 use lib.ListN.{length, drop}
 use Rattle.verdicts.specs.declared.Verdict.{Verdict}
 use Rattle.verdicts.proofs.Verdicts.{numbered-one}
-use Rattle.relation.proofs.Rooms.{Words}
+use Rattle.relation.specs.Bits.{Words}
 use Rattle.sheet.specs.declared.Sheet.{Sheet}
 use Rattle.findings.specs.declared.finding.Finding.{Finding}
 use Rattle.review.specs.Judge.{reaches}

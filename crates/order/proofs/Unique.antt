@@ -6,7 +6,8 @@ use Prim.Native.Nat.{ℕ}
 use native.Mathlib.Decide.{ℕ-discrete}
 use Rattle.verdicts.specs.Verdicts.{numbered}
 use Rattle.verdicts.specs.declared.Verdict.{Verdict}
-use Rattle.relation.proofs.Rooms.{Words, holds-one}
+use Rattle.relation.specs.Bits.{Words}
+use Rattle.relation.proofs.Rooms.{holds-one}
 use Rattle.rooms.proofs.Unique.{refuse-one}
 use Rattle.order.specs.Orders.{Orders}
 

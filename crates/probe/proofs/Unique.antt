@@ -9,7 +9,8 @@ use lib.ListN.{length}
 use Rattle.verdicts.specs.Verdicts.{numbered}
 use Rattle.relation.specs.Chains.{Chain}
 use Rattle.relation.specs.Table.{Related}
-use Rattle.relation.proofs.Rooms.{Words, writes-one}
+use Rattle.relation.specs.Bits.{Words}
+use Rattle.relation.proofs.Rooms.{writes-one}
 use Rattle.spelling.specs.Over.{over}
 use Rattle.notation.specs.Reading.{answered}
 use Rattle.notation.specs.declared.reading.Reading.{Reading}

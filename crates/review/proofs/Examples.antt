@@ -1,6 +1,9 @@
 -- Each starred example of document 01 holds of the definitions: the test of the whole table computes to true. Assumes nothing.
-use mathlib.Core.Path.{_≡_, refl}
+use mathlib.Core.Path.{_≡_, refl, ap, _∙_}
 use mathlib.Core.Bool.{true}
+use mathlib.Core.List.{List, [], _∷_}
+use Prim.Native.Nat.{ℕ}
+use native.Mathlib.Omega.{arith}
 use Rattle.tables.specs.Limits.{mostRows, mostThreads, addresses, barriers, mostCount}
 use Rattle.tables.specs.Rows.{total, firstRow, threadOf}
 use Rattle.tables.specs.Lowest.{lowest}
@@ -16,8 +19,13 @@ use Rattle.replay.specs.Ending.{ended, judged}
 use Rattle.sheet.specs.Sheet.{sheetOf}
 use Rattle.faults.specs.Faults.{succeeds, reuse, conflict, race, alongRow, allRows, faults}
 use Rattle.rooms.specs.Refusals.{refused}
-use Rattle.review.specs.Judge.{verdictOf}
-use Rattle.review.specs.Examples.{examples, all, same, word, below, holds}
+use Rattle.findings.specs.Findings.{faultTold}
+use Rattle.verdicts.specs.Verdicts.{tell, numbered}
+use Rattle.verdicts.specs.declared.Told.{Told}
+use Rattle.replay.specs.InOrder.{orElse}
+use Rattle.review.specs.Judge.{verdictOf, generations, reaches}
+use Rattle.review.specs.Agreement.{Review, File, file, Passes}
+use Rattle.review.specs.Examples.{examples, all, same, word, below, holds, fourSyncs, TenDiffers}
 
 pub every : all holds examples ≡ true
 unfolding all holds examples same word below
@@ -25,3 +33,28 @@ unfolding all holds examples same word below
     rounds width edge reach start mayStep allowed registering running stepped playing played ended sheetOf
     succeeds reuse conflict race alongRow allRows faults refused judged verdictOf
 every = refl
+
+-- what the definitions tell of C, by two schedules
+abbrev told : List ℕ → Told
+told σ =
+    orElse (judged (1 ∷ 1 ∷ 1 ∷ 1 ∷ []) (played fourSyncs (1 ∷ 1 ∷ 1 ∷ 1 ∷ []) σ))
+    (faultTold fourSyncs (1 ∷ 1 ∷ 1 ∷ 1 ∷ []) (generations fourSyncs (1 ∷ 1 ∷ 1 ∷ 1 ∷ []) σ) (reaches fourSyncs (1 ∷ 1 ∷ 1 ∷ 1 ∷ []) σ))
+
+two-told : (told (0 ∷ 1 ∷ 2 ∷ 3 ∷ []) ≡ tell 10 0 2) × (told (0 ∷ 2 ∷ 1 ∷ 3 ∷ []) ≡ tell 10 0 1)
+unfolding mostRows mostThreads addresses barriers mostCount total firstRow threadOf lowest rowKeeps firstBad checked
+    rounds width edge reach start mayStep allowed registering running stepped playing played ended sheetOf
+    succeeds reuse conflict race alongRow allRows faults judged
+two-told = (refl, refl)
+
+is-told : (r : Review fourSyncs (1 ∷ 1 ∷ 1 ∷ 1 ∷ [])) → Passes r → numbered (r .found .verdict) ≡ told (r .schedule)
+unfolding verdictOf
+is-told r p = rw p at (r .meets .demand₂ .verdict)
+
+pub ten-differs : TenDiffers
+ten-differs a b p q e f =
+    let u : numbered (a .found .verdict) ≡ tell 10 0 2 = is-told a p ∙ ap told e ∙ two-told .0 in
+    let v : numbered (b .found .verdict) ≡ tell 10 0 1 = is-told b q ∙ ap told f ∙ two-told .1 in (
+      ap (λ (t : Told). t .number) u,
+      ap (λ (t : Told). t .number) v,
+      λ (z : file a ≡ file b). omega (arith, ap (λ (k : File). k .verdict .also) z, ap (λ (t : Told). t .also) u, ap (λ (t : Told). t .also) v),
+    )

@@ -8,7 +8,8 @@ use Rattle.verdicts.specs.Verdicts.{numbered}
 use Rattle.verdicts.specs.declared.Verdict.{Verdict}
 use Rattle.verdicts.proofs.Verdicts.{numbered-one}
 use Rattle.relation.proofs.Truth.{split}
-use Rattle.relation.proofs.Rooms.{Words, holds-one}
+use Rattle.relation.specs.Bits.{Words}
+use Rattle.relation.proofs.Rooms.{holds-one}
 use Rattle.sheet.specs.declared.Sheet.{Sheet}
 use Rattle.findings.specs.declared.finding.Finding.{Finding}
 use Rattle.review.specs.Judge.{fills}

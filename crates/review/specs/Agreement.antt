@@ -1,13 +1,17 @@
--- What a review promises: the user's three demands.
+-- What a review promises: the user's three demands; and what follows from them for two reviews of one program.
 use mathlib.Core.Path.{_≡_}
-use mathlib.Core.Bool.{true, false}
+use mathlib.Core.Bool.{Bool, true, false, _||_}
 use mathlib.Core.List.{List, []}
 use mathlib.Core.Logic.{_⊎_, _↔_, _≢_}
 use Prim.Native.Nat.{ℕ, _≤_, _<_}
-use lib.ListN.{length, getD}
+use lib.Dec.{eqb}
+use lib.ListN.{length, getD, take}
 use Rattle.tables.specs.Rows.{rows}
 use Rattle.verdicts.specs.Verdicts.{tell, numbered}
+use Rattle.verdicts.specs.declared.Told.{Told}
+use Rattle.relation.specs.Bits.{Words}
 use Rattle.relation.specs.Table.{words}
+use Rattle.sheet.specs.declared.Sheet.{Sheet}
 use Rattle.findings.specs.declared.finding.Finding.{Finding}
 use Rattle.replay.specs.Replay.{played}
 use Rattle.order.specs.Order.{Reached}
@@ -60,3 +64,54 @@ pub record Reviewed (commands lengths schedule relation room : List ℕ) (r : Fi
   pub demand₁ : Safe commands relation room r relation′ room′
   pub demand₂ : Exact commands lengths schedule relation room r relation′ room′
   pub demand₃ : refused commands lengths (length relation) (length room) ≡ tell 0 0 0 → Judges commands lengths schedule (number r)
+
+-- ---- one program, one file: request 2026-10
+
+-- A review of a program: the schedule that was offered, the rooms as they were lent, what was found, and the rooms as they were given back.
+pub record Review (commands lengths : List ℕ) : Type 0 where
+  pub schedule : List ℕ
+  pub relation : List ℕ
+  pub room : List ℕ
+  pub found : Finding
+  pub relation′ : List ℕ
+  pub room′ : List ℕ
+  pub meets : Reviewed commands lengths schedule relation room found relation′ room′
+  pub words : Words relation′
+
+-- What is filed of it: the verdict with its places, the sheet with its total, the words of the relation, M × ⌈M/32⌉, and the M generations. The rest of each
+-- room is its owner's, and is kept (`relation-beyond`, `room-beyond` of Safe).
+pub record File : Type 0 where
+  pub verdict : Told
+  pub sheet : Sheet
+  pub relation : List ℕ
+  pub generations : List ℕ
+
+abbrev pub file : {commands lengths : List ℕ} → Review commands lengths → File
+file {commands} r =
+    record {
+      verdict = numbered (r .found .verdict);
+      sheet = r .found .sheet;
+      relation = take (words (rows commands)) (r .relation′);
+      generations = take (rows commands) (r .room′);
+    }
+
+-- 0 and 11, the verdicts of programs whose schedules agree
+abbrev pub settles : ℕ → Bool
+settles n = eqb n 0 || eqb n 11
+
+-- its tables and rooms passed refusals 1 to 4
+abbrev pub Passes : {commands lengths : List ℕ} → Review commands lengths → Type 0
+Passes {commands} {lengths} r = refused commands lengths (length (r .relation)) (length (r .room)) ≡ tell 0 0 0
+
+module _ (commands lengths : List ℕ) where
+  -- Any two reviews of one program that both end in 0 or 11 leave one file, whatever schedules they were offered and whatever rooms they were lent.
+  -- Excepted is what hangs on the schedule offered:
+  --   verdict 10: which commands meet in a generation, and so which pairs are at fault (`TenDiffers` of Examples: one program, two files);
+  --   evidence (2026-04): any schedules will do that show the fault;
+  --   the sets of 2026-06: who is let go, and when.
+  abbrev pub OneFile : Type 0
+  OneFile = (a b : Review commands lengths) → settles (number (a .found)) ≡ true → settles (number (b .found)) ≡ true → file a ≡ file b
+
+  -- And one such review speaks for all: who offers any legal and complete schedule, with rooms that pass, ends with its file.
+  abbrev pub OneForAll : Type 0
+  OneForAll = (a b : Review commands lengths) → settles (number (a .found)) ≡ true → Complete commands lengths (b .schedule) → Passes b → file a ≡ file b

@@ -1,4 +1,6 @@
 -- The starred examples of document 01, as document 02 has changed them: one table, and the one test that each of its rows is to pass.
+use mathlib.Core.Path.{_≡_}
+use mathlib.Core.Logic.{_≢_}
 use mathlib.Core.Bool.{Bool, true, false, cond, _&&_}
 use mathlib.Core.List.{List, [], _∷_, _++_}
 use Prim.Native.Nat.{ℕ, zero, suc, _+_, _*_, _^_}
@@ -14,6 +16,7 @@ use Rattle.replay.specs.Replay.{played}
 use Rattle.sheet.specs.Sheet.{pair, sheetOf}
 use Rattle.findings.specs.Findings.{faultPairs}
 use Rattle.review.specs.Judge.{verdictOf, generations, reaches, fills}
+use Rattle.review.specs.Agreement.{number, Review, Passes, file}
 
 -- ---- the table
 
@@ -47,11 +50,18 @@ example commands lengths schedule verdict pairs total generations relation =
       relation = relation;
     }
 
+-- the commands of C
+abbrev pub fourSyncs : List ℕ
+fourSyncs = 3 ∷ 0 ∷ 2 ∷ 3 ∷ 0 ∷ 2 ∷ 3 ∷ 0 ∷ 2 ∷ 3 ∷ 0 ∷ 2 ∷ []
+
 -- A row of commands is kind, name, count. Kind 0 read, 1 write, 2 arrive, 3 sync; reads and writes have count 0.
 unfoldable pub examples : List Example
 examples =
     -- A: write 7; arrive 0 2 || sync 0 2; read 7, schedule 0 0 1 1: verdict 0, generations 0 1 1 0, relation words 15 14 12 8
     example (1 ∷ 7 ∷ 0 ∷ 2 ∷ 0 ∷ 2 ∷ 3 ∷ 0 ∷ 2 ∷ 0 ∷ 7 ∷ 0 ∷ []) (2 ∷ 2 ∷ []) (0 ∷ 0 ∷ 1 ∷ 1 ∷ [])
+    (tell 0 0 0) [] 0 (given (0 ∷ 1 ∷ 1 ∷ 0 ∷ [])) (given (15 ∷ 14 ∷ 12 ∷ 8 ∷ []))
+    -- A by another schedule, 1 0 0 1: the same file (2026-10)
+    ∷ example (1 ∷ 7 ∷ 0 ∷ 2 ∷ 0 ∷ 2 ∷ 3 ∷ 0 ∷ 2 ∷ 0 ∷ 7 ∷ 0 ∷ []) (2 ∷ 2 ∷ []) (1 ∷ 0 ∷ 0 ∷ 1 ∷ [])
     (tell 0 0 0) [] 0 (given (0 ∷ 1 ∷ 1 ∷ 0 ∷ [])) (given (15 ∷ 14 ∷ 12 ∷ 8 ∷ []))
     -- A2: as A, schedule 1 1: 5, place 1
     ∷ example (1 ∷ 7 ∷ 0 ∷ 2 ∷ 0 ∷ 2 ∷ 3 ∷ 0 ∷ 2 ∷ 0 ∷ 7 ∷ 0 ∷ []) (2 ∷ 2 ∷ []) (1 ∷ 1 ∷ [])
@@ -59,9 +69,15 @@ examples =
     -- B: arrive 0 2; write 7 || read 7; sync 0 2, schedule 0 0 1 1: 11, pair 1 2, total 1
     ∷ example (2 ∷ 0 ∷ 2 ∷ 1 ∷ 7 ∷ 0 ∷ 0 ∷ 7 ∷ 0 ∷ 3 ∷ 0 ∷ 2 ∷ []) (2 ∷ 2 ∷ []) (0 ∷ 0 ∷ 1 ∷ 1 ∷ [])
     (tell 11 1 2) (pair 1 2 ∷ []) 1 unsaid unsaid
+    -- B by another schedule, 1 0 0 1: the same file (2026-10)
+    ∷ example (2 ∷ 0 ∷ 2 ∷ 1 ∷ 7 ∷ 0 ∷ 0 ∷ 7 ∷ 0 ∷ 3 ∷ 0 ∷ 2 ∷ []) (2 ∷ 2 ∷ []) (1 ∷ 0 ∷ 0 ∷ 1 ∷ [])
+    (tell 11 1 2) (pair 1 2 ∷ []) 1 unsaid unsaid
     -- C: sync 0 2 || sync 0 2 || sync 0 2 || sync 0 2, schedule 0 1 2 3: 10, place 0 2, total 4, pairs 0 2, 1 2, 0 3, 1 3
-    ∷ example (3 ∷ 0 ∷ 2 ∷ 3 ∷ 0 ∷ 2 ∷ 3 ∷ 0 ∷ 2 ∷ 3 ∷ 0 ∷ 2 ∷ []) (1 ∷ 1 ∷ 1 ∷ 1 ∷ []) (0 ∷ 1 ∷ 2 ∷ 3 ∷ [])
+    ∷ example fourSyncs (1 ∷ 1 ∷ 1 ∷ 1 ∷ []) (0 ∷ 1 ∷ 2 ∷ 3 ∷ [])
     (tell 10 0 2) (pair 0 2 ∷ pair 1 2 ∷ pair 0 3 ∷ pair 1 3 ∷ []) 4 unsaid unsaid
+    -- C by another schedule, 0 2 1 3: 10 again, and another file, since others meet first (2026-10)
+    ∷ example fourSyncs (1 ∷ 1 ∷ 1 ∷ 1 ∷ []) (0 ∷ 2 ∷ 1 ∷ 3 ∷ [])
+    (tell 10 0 1) (pair 0 1 ∷ pair 2 1 ∷ pair 0 3 ∷ pair 2 3 ∷ []) 4 unsaid unsaid
     -- D: arrive 0 2 || arrive 0 2 || arrive 0 2 || arrive 0 2, schedule 0 1 2 3: the same as C
     ∷ example (2 ∷ 0 ∷ 2 ∷ 2 ∷ 0 ∷ 2 ∷ 2 ∷ 0 ∷ 2 ∷ 2 ∷ 0 ∷ 2 ∷ []) (1 ∷ 1 ∷ 1 ∷ 1 ∷ []) (0 ∷ 1 ∷ 2 ∷ 3 ∷ [])
     (tell 10 0 2) (pair 0 2 ∷ pair 1 2 ∷ pair 0 3 ∷ pair 1 3 ∷ []) 4 unsaid unsaid
@@ -150,3 +166,11 @@ module _ (e : Example) where
   holds =
       sameTold verdictFound (e .verdict) && (same samePair pairsFound (e .pairs) && (eqb (sheetOf pairsFound .total) (e .total)
       && (asGiven generationsFound (e .generations) && asGiven relationFound (e .relation))))
+
+-- ---- one program, two files
+
+-- Why `OneFile` (Agreement) excepts 10: whatever rooms C is reviewed in, schedules 0 1 2 3 and 0 2 1 3 both get 10, and leave two files.
+abbrev pub TenDiffers : Type 0
+TenDiffers =
+    (a b : Review fourSyncs (1 ∷ 1 ∷ 1 ∷ 1 ∷ [])) → Passes a → Passes b → a .schedule ≡ 0 ∷ 1 ∷ 2 ∷ 3 ∷ [] → b .schedule ≡ 0 ∷ 2 ∷ 1 ∷ 3 ∷ []
+    → (number (a .found) ≡ 10) × (number (b .found) ≡ 10) × (file a ≢ file b)

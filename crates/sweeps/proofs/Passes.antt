@@ -8,13 +8,13 @@ use native.Mathlib.Decide.{ℕ-discrete, decLt}
 use native.Mathlib.Omega.{arith}
 use lib.ListN.{length}
 use Rattle.relation.specs.Chains.{Reach, here, goes}
-use Rattle.relation.specs.Bits.{bitAt, sum, RowIs, RowJoined, joined}
+use Rattle.relation.specs.Bits.{Words, bitAt, sum, RowIs, RowJoined, joined}
 use Rattle.relation.specs.Table.{width, words, inside, Holds, Joins}
 use Rattle.sweeps.specs.Passes.{Joined, none, more, Takes, Pass, At, SoundTable}
 use Rattle.relation.proofs.Truth.{split, isnt, clashing, either, neither, left, right}
 use Rattle.relation.proofs.Chains.{reach-join}
 use Rattle.relation.proofs.Rows.{other-row}
-use Rattle.relation.proofs.Rooms.{Words, wide, row-in, place, place-in}
+use Rattle.relation.proofs.Rooms.{wide, row-in, place, place-in}
 
 -- ---- passes
 

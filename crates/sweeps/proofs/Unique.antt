@@ -5,7 +5,8 @@ use mathlib.Core.List.{List}
 use Prim.Native.Nat.{ℕ}
 use Rattle.relation.specs.Chains.{Reach}
 use Rattle.relation.specs.Table.{Writes}
-use Rattle.relation.proofs.Rooms.{Words, writes-one}
+use Rattle.relation.specs.Bits.{Words}
+use Rattle.relation.proofs.Rooms.{writes-one}
 use Rattle.sweeps.specs.Pairs.{PairIn}
 
 -- words of 32 bits stand in the rooms

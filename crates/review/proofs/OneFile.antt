@@ -1,0 +1,207 @@
+-- One program, one file: what two reviews of one program leave that end in 0 or 11. Assumes nothing.
+use mathlib.Core.Path.{_≡_, sym, ap, _∙_, subst}
+use mathlib.Core.Logic.{_⊎_, inl, inr, by-cases, _≢_}
+use mathlib.Core.Bool.{true}
+use mathlib.Core.List.{List}
+use Prim.Native.Nat.{ℕ, _≤_, _<_}
+use native.Mathlib.Decide.{ℕ-discrete}
+use native.Mathlib.Omega.{arith}
+use lib.ListN.{length, getD, take, drop}
+use lib.Seq.{ext-getD, length-take-le, getD-take, take-at}
+use borrow.Author.Tests.{ne-eqb}
+use Rattle.tables.specs.Rows.{rows}
+use Rattle.verdicts.specs.Verdicts.{numbered}
+use Rattle.verdicts.specs.declared.Told.{Told}
+use Rattle.relation.specs.Table.{words}
+use Rattle.relation.proofs.Truth.{clashing, same-test}
+use Rattle.relation.proofs.Rooms.{holds-same}
+use Rattle.schedules.proofs.Theorems.{decides}
+use Rattle.sheet.specs.Sheet.{sheetOf}
+use Rattle.faults.specs.declared.faults.Fault.{Fault}
+use Rattle.faults.specs.declared.faults.Fault.the-variants.{Reuse, Race}
+use Rattle.replay.specs.InOrder.{orElse}
+use Rattle.replay.specs.Replay.{played}
+use Rattle.replay.specs.Ending.{judged}
+use Rattle.replay.specs.Program.{program}
+use Rattle.replay.specs.Schedules.{Complete, Agree, Alike}
+use Rattle.replay.proofs.Refusals.{or-first, or-second}
+use Rattle.replay.proofs.Plays.{clean-through}
+use Rattle.replay.proofs.Judged.{judged-small}
+use Rattle.replay.proofs.Agreements.{reaches-same}
+use Rattle.rooms.specs.Refusals.{refused}
+use Rattle.rooms.proofs.Refusals.{Admitted, admitted, refused-small}
+use Rattle.order.specs.Order.{Reached}
+use Rattle.order.proofs.Reaching.{same-reached}
+use Rattle.faults.specs.Faults.{faults}
+use Rattle.faults.proofs.Pairs.{same-faults}
+use Rattle.findings.specs.Findings.{faultTold, faultPairs}
+use Rattle.review.specs.Judge.{generations, reaches, verdictOf, fills}
+use Rattle.review.specs.Agreement.{number, Review, file, settles, OneFile, OneForAll}
+use Rattle.review.proofs.Judging.{told, judges}
+
+-- ---- 0 and 11
+
+settled-number : (n : ℕ) → settles n ≡ true → (n ≡ 0) ⊎ (n ≡ 11)
+settled-number n s =
+    by-cases (ℕ-discrete n 0) inl
+    (λ (a : n ≢ 0). by-cases (ℕ-discrete n 11) inr (λ (b : n ≢ 11). clashing s (rw (ne-eqb n 0 a, ne-eqb n 11 b))))
+
+number-settles : (n : ℕ) → (n ≡ 0) ⊎ (n ≡ 11) → settles n ≡ true
+number-settles n (inl e) = rw e
+number-settles n (inr e) = rw e
+
+pub settled-fills : (n : ℕ) → settles n ≡ true → fills n ≡ true
+settled-fills n s = by (settled-number n s)
+  where
+    by : (n ≡ 0) ⊎ (n ≡ 11) → fills n ≡ true
+    by (inl e) = rw e
+    by (inr e) = rw e
+
+-- what is told first and is no such number is 0
+first-zero : (a b : Told) → a .number ≤ 9 → settles (orElse a b .number) ≡ true → a .number ≡ 0
+first-zero a b l s =
+    by-cases (ℕ-discrete (a .number) 0) (λ (e : a .number ≡ 0). e)
+    (λ (n : a .number ≢ 0). by n (settled-number (a .number) (subst (λ (t : Told). settles (t .number) ≡ true) (sym (or-first a b n)) s)))
+  where
+    by : a .number ≢ 0 → (a .number ≡ 0) ⊎ (a .number ≡ 11) → a .number ≡ 0
+    by n (inl e) = e
+    by n (inr e) = absurd (omega arith)
+
+-- ---- the verdict of one schedule
+
+-- what is told past refusals 1 to 4
+past-refusal : (commands lengths σ : List ℕ) (relation room : ℕ) → refused commands lengths relation room .number ≡ 0
+    → verdictOf commands lengths σ relation room
+    ≡ orElse (judged lengths (played commands lengths σ)) (faultTold commands lengths (generations commands lengths σ) (reaches commands lengths σ))
+unfolding verdictOf
+past-refusal commands lengths σ relation room pass = sym (or-second (refused commands lengths relation room) _ pass)
+
+-- a schedule gets 0 or 11, in rooms so long
+pub record Settling (commands lengths σ : List ℕ) (relation room : ℕ) : Type 0 where
+  pub settled : settles (verdictOf commands lengths σ relation room .number) ≡ true
+
+module _ {commands lengths σ : List ℕ} {relation room : ℕ} (S : Settling commands lengths σ relation room) where
+  abbrev refusal : Told
+  refusal = refused commands lengths relation room
+
+  abbrev faulty : Told
+  faulty = faultTold commands lengths (generations commands lengths σ) (reaches commands lengths σ)
+
+  passed : refusal .number ≡ 0
+  unfolding verdictOf
+  passed = first-zero refusal _ (omega (arith, refused-small commands lengths relation room)) (S .settled)
+
+  pub admits : Admitted commands lengths relation room
+  admits = admitted commands lengths relation room passed
+
+  judged-told : verdictOf commands lengths σ relation room ≡ told (admits .keeps) σ
+  judged-told = past-refusal commands lengths σ relation room passed
+
+  settled-told : settles (told (admits .keeps) σ .number) ≡ true
+  settled-told = subst (λ (t : Told). settles (t .number) ≡ true) judged-told (S .settled)
+
+  -- the offered schedule is legal and complete, and all of them agree
+  pub agrees : Complete commands lengths σ × Agree commands lengths
+  agrees = judges (admits .keeps) σ .agreement .0 (settled-number (told (admits .keeps) σ .number) settled-told)
+
+  -- what is told is what the faults say
+  pub faults-told : verdictOf commands lengths σ relation room ≡ faulty
+  faults-told =
+      let j = judged lengths (played commands lengths σ) in
+      judged-told ∙ sym (or-second j faulty (first-zero j faulty (judged-small (admits .keeps) σ) settled-told))
+
+  -- any other that is legal and complete gets 0 or 11, too, in rooms that pass
+  pub complete-settles : {τ : List ℕ} {relation₂ room₂ : ℕ} → Complete commands lengths τ → refused commands lengths relation₂ room₂ .number ≡ 0
+      → Settling commands lengths τ relation₂ room₂
+  complete-settles {τ} {relation₂} {room₂} c pass =
+      let K = admits .keeps in
+      record {
+        settled =
+            subst (λ (t : Told). settles (t .number) ≡ true) (sym (past-refusal commands lengths τ relation₂ room₂ pass)) (number-settles (told K τ .number) (judges K τ .agreement .1 (c, agrees .1)));
+      }
+
+-- ---- the verdicts of two schedules
+
+module _ {commands lengths σ τ : List ℕ} {relation room relation₂ room₂ : ℕ} (S : Settling commands lengths σ relation room)
+    (T : Settling commands lengths τ relation₂ room₂) where
+  abbrev g : ℕ → ℕ
+  g = generations commands lengths σ
+
+  abbrev h : ℕ → ℕ
+  h = generations commands lengths τ
+
+  pub one-generations : Alike commands lengths σ τ
+  one-generations = agrees S .1 .alike σ τ (agrees S .0) (agrees T .0)
+
+  -- all else hangs on the generations alone
+  one-reach : (x y : ℕ) → x < rows commands → y < rows commands → reaches commands lengths σ x y ≡ reaches commands lengths τ x y
+  one-reach x y lx ly =
+      let P = program commands lengths in
+      let (f, t) = decides P g x y lx ly in
+      let (u, v) = decides P h x y lx ly in
+      same-test _ _ (λ e. v (reaches-same P one-generations (f e))) (λ e. t (reaches-same P (λ c l. sym (one-generations c l)) (u e)))
+
+  one-found : (f : Fault) → faults commands lengths g (reaches commands lengths σ) f ≡ faults commands lengths h (reaches commands lengths τ) f
+  one-found = same-faults commands lengths g h _ _ one-generations one-reach
+
+  pub one-told : verdictOf commands lengths σ relation room ≡ verdictOf commands lengths τ relation₂ room₂
+  one-told =
+      let e : faultTold commands lengths g (reaches commands lengths σ) ≡ faultTold commands lengths h (reaches commands lengths τ) = rw (one-found Reuse, one-found Race) in
+      faults-told S ∙ e ∙ sym (faults-told T)
+
+  pub one-pairs : faultPairs commands lengths g (reaches commands lengths σ) ≡ faultPairs commands lengths h (reaches commands lengths τ)
+  one-pairs = rw (one-found Reuse, one-found Race)
+
+-- ---- two reviews of one program
+
+-- the same numbers in front
+same-front : (r s : List ℕ) (n : ℕ) → n ≤ length r → n ≤ length s → ((p : ℕ) → p < n → getD r p 0 ≡ getD s p 0) → take n r ≡ take n s
+same-front r s n lr ls same =
+    ext-getD 0 (take n r) (take n s) (length-take-le n r lr ∙ sym (length-take-le n s ls))
+    (λ p h. let l : p < n = omega (arith, length-take-le n r lr) in getD-take n r p 0 l ∙ same p l ∙ sym (getD-take n s p 0 l))
+
+module _ {commands lengths : List ℕ} (r : Review commands lengths) (s : settles (number (r .found)) ≡ true) where
+  pub settling : Settling commands lengths (r .schedule) (length (r .relation)) (length (r .room))
+  settling = record { settled = subst (λ (t : Told). settles (t .number) ≡ true) (r .meets .demand₂ .verdict) s }
+
+  filled : fills (number (r .found)) ≡ true
+  filled = settled-fills (number (r .found)) s
+
+  reached : Reached commands lengths (generations commands lengths (r .schedule)) (r .relation) (r .relation′)
+  reached = r .meets .demand₂ .relation-holds filled
+
+  words-fit : words (rows commands) ≤ length (r .relation′)
+  words-fit = omega (arith, reached .len, admits settling .relation-fits)
+
+  gens-fit : rows commands ≤ length (played commands lengths (r .schedule) .generations)
+  gens-fit =
+      let A = agrees settling in
+      let K = admits settling .keeps in
+      omega (arith, K .few-rows, clean-through K (r .schedule) (A .1 .clean (r .schedule) (A .0) .through) .gens .long)
+
+  gens-front : take (rows commands) (r .room′) ≡ take (rows commands) (played commands lengths (r .schedule) .generations)
+  gens-front =
+      let g = played commands lengths (r .schedule) .generations in
+      ap (λ (l : List ℕ). take (rows commands) l) (r .meets .demand₂ .room-holds filled)
+      ∙ take-at (take (rows commands) g) (drop (rows commands) (r .room)) (rows commands) (length-take-le (rows commands) g gens-fit)
+
+module _ {commands lengths : List ℕ} where
+  pub one-file : OneFile commands lengths
+  one-file a b s t =
+      let sa = settling a s in
+      let sb = settling b t in
+      let alike = one-generations sa sb in
+      let v : numbered (a .found .verdict) ≡ numbered (b .found .verdict) = a .meets .demand₂ .verdict ∙ one-told sa sb ∙ sym (b .meets .demand₂ .verdict) in
+      let h : a .found .sheet ≡ b .found .sheet = a .meets .demand₂ .sheet (filled a s) ∙ ap sheetOf (one-pairs sa sb) ∙ sym (b .meets .demand₂ .sheet (filled b t)) in
+      let w : take (words (rows commands)) (a .relation′) ≡ take (words (rows commands)) (b .relation′) =
+      same-front (a .relation′) (b .relation′) (words (rows commands)) (words-fit a s) (words-fit b t)
+      (holds-same (a .relation) (b .relation) (a .relation′) (b .relation′) (rows commands) _ (a .words) (b .words) (reached a s)
+      (same-reached commands lengths _ _ (λ c l. sym (alike c l)) (b .relation) (b .relation′) (reached b t))) in
+      let g : take (rows commands) (a .room′) ≡ take (rows commands) (b .room′) =
+      gens-front a s ∙ same-front _ _ (rows commands) (gens-fit a s) (gens-fit b t) alike ∙ sym (gens-front b t) in
+      cc
+
+  pub one-for-all : OneForAll commands lengths
+  one-for-all a b s c pass =
+      let T = complete-settles (settling a s) c (ap (λ (t : Told). t .number) pass) in
+      one-file a b s (subst (λ (t : Told). settles (t .number) ≡ true) (sym (b .meets .demand₂ .verdict)) (T .settled))
