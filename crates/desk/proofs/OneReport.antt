@@ -2,6 +2,7 @@
 use mathlib.Core.Path.{_≡_, sym, ap, _∙_}
 use mathlib.Core.Bool.{true}
 use mathlib.Core.List.{List}
+use Prim.Native.Nat.{ℕ}
 use Rattle.tables.specs.Limits.{mostRows}
 use Rattle.verdicts.specs.Verdicts.{numbered}
 use Rattle.verdicts.specs.declared.Told.{Told}
