@@ -195,7 +195,7 @@ module _ {commands lengths : List ℕ} where
       let h : a .found .sheet ≡ b .found .sheet = a .meets .demand₂ .sheet (filled a s) ∙ ap sheetOf (one-pairs sa sb) ∙ sym (b .meets .demand₂ .sheet (filled b t)) in
       let w : take (words (rows commands)) (a .relation′) ≡ take (words (rows commands)) (b .relation′) =
       same-front (a .relation′) (b .relation′) (words (rows commands)) (words-fit a s) (words-fit b t)
-      (holds-same (a .relation) (b .relation) (a .relation′) (b .relation′) (rows commands) _ (a .words) (b .words) (reached a s)
+      (holds-same (a .relation) (b .relation) (a .relation′) (b .relation′) (rows commands) _ (a .in-words) (b .in-words) (reached a s)
       (same-reached commands lengths _ _ (λ c l. sym (alike c l)) (b .relation) (b .relation′) (reached b t))) in
       let g : take (rows commands) (a .room′) ≡ take (rows commands) (b .room′) =
       gens-front a s ∙ same-front _ _ (rows commands) (gens-fit a s) (gens-fit b t) alike ∙ sym (gens-front b t) in

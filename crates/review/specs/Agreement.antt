@@ -67,7 +67,8 @@ pub record Reviewed (commands lengths schedule relation room : List ℕ) (r : Fi
 
 -- ---- one program, one file: request 2026-10
 
--- A review of a program: the schedule that was offered, the rooms as they were lent, what was found, and the rooms as they were given back.
+-- A review of a program: the schedule that was offered, the rooms as they were lent, what was found, and the rooms as they were given back, that of the
+-- relation with words of 32 bits in it.
 pub record Review (commands lengths : List ℕ) : Type 0 where
   pub schedule : List ℕ
   pub relation : List ℕ
@@ -76,7 +77,7 @@ pub record Review (commands lengths : List ℕ) : Type 0 where
   pub relation′ : List ℕ
   pub room′ : List ℕ
   pub meets : Reviewed commands lengths schedule relation room found relation′ room′
-  pub words : Words relation′
+  pub in-words : Words relation′
 
 -- What is filed of it: the verdict with its places, the sheet with its total, the words of the relation, M × ⌈M/32⌉, and the M generations. The rest of each
 -- room is its owner's, and is kept (`relation-beyond`, `room-beyond` of Safe).
