@@ -22,9 +22,8 @@
 
 #include "../include/desk.h"
 #include "../include/probe.h"
+#include "call.h"
 #include "evidence.h"
-#include "inputs.h"
-#include "lent.h"
 #include "printed.h"
 #include "schedules.h"
 
@@ -52,46 +51,19 @@ static const char *const limits[LIMITS] = {"past 3, a count equal to the threads
 static const uint32_t answers[DOORS] = {0x4fff, 0x401f, 0x7001, 0x7f89, 0x7f89, 0x3};
 static const int has_limits[DOORS] = {1, 1, 0, 1, 1, 0};
 
-static unsigned long long seed_given, number;
 static unsigned long calls[DOORS], answered[DOORS][16], marked[MARKS], programs, schedules;
 static unsigned long evident[2], ended[16]; /* reviews whose evidence was checked, for 10 and for 11; how the second schedules of 10 ended */
 static unsigned long printed[2];            /* text reviews whose printed evidence was checked, for 10 and for 11 */
 static unsigned long met[DOORS][LIMITS], at_limit; /* what 2026-02 decided; calls with a count equal to the threads or one above */
 static enum door door;
-static volatile sig_atomic_t is_called; /* the archive's code runs, not the test's */
-static struct random drawn;
-
-/* ---- what is lent, in one call */
-
 static struct lent commands, lengths, schedule, relation, generations, evidence, answer, text, report, exhibits, tables_room[2];
-static struct lent *now[8];
-static size_t lent_now;
 
-static void tell_input(void)
-{
-    fprintf(stderr, "  to repeat: compare %llu 1 %llu\n", seed_given, number);
-    for (size_t i = 0; i < lent_now; i++)
-        print_lent(now[i]);
-}
-
-static void fail(const char *what, long place, unsigned long found, unsigned long expected)
-{
-    fprintf(stderr, "compare: seed %llu, number %llu, %s: %s at %ld is %lu, not %lu\n", seed_given, number, doors[door], what, place, found, expected);
-    tell_input();
-    exit(1);
-}
-
-static void fail_beside(const struct lent *lent, long place)
-{
-    fprintf(stderr, "compare: seed %llu, number %llu, %s: the byte beside %s at %ld has changed\n", seed_given, number, doors[door], lent->name, place);
-    tell_input();
-    exit(1);
-}
+/* ---- one call */
 
 static void fail_evidence(const struct shown *shown, const uint32_t *written, size_t count)
 {
-    fprintf(stderr, "compare: seed %llu, number %llu, %s: evidence of %lu entries: %s, at %lu:", seed_given, number, doors[door], (unsigned long)count, shown->flaw,
-            (unsigned long)shown->at);
+    tell_where();
+    fprintf(stderr, "evidence of %lu entries: %s, at %lu:", (unsigned long)count, shown->flaw, (unsigned long)shown->at);
     for (size_t i = 0; i < count && i < evidence.bytes / 4; i++)
         fprintf(stderr, " %lu", (unsigned long)written[i]);
     fprintf(stderr, "\n");
@@ -104,53 +76,16 @@ static void fail_printed(const struct shown *shown, const uint8_t *bytes, size_t
     size_t length = 0;
     while (length < most && (bytes[length] == '\n' || (bytes[length] >= ' ' && bytes[length] <= '~')))
         length++;
-    fprintf(stderr, "compare: seed %llu, number %llu, %s: what is printed after the report: %s, at %lu:\n%.*s\n", seed_given, number, doors[door], shown->flaw,
-            (unsigned long)shown->at, (int)length, (const char *)bytes);
+    tell_where();
+    fprintf(stderr, "what is printed after the report: %s, at %lu:\n%.*s\n", shown->flaw, (unsigned long)shown->at, (int)length, (const char *)bytes);
     tell_input();
     exit(1);
-}
-
-/* The fault is in the code that runs, which prints nothing: so the handler may print. */
-static void touched(int signal)
-{
-    fprintf(stderr, "compare: seed %llu, number %llu, %s: %s (signal %d)\n", seed_given, number, doors[door],
-            is_called ? "it touched what was not lent, or wrote what was lent for reading" : "a fault of the test itself", signal);
-    tell_input();
-    _exit(1);
 }
 
 static void begin_call(enum door which)
 {
     door = which;
-    lent_now = 0;
-}
-
-static uint32_t *numbers(struct lent *lent, const uint32_t *from, size_t n)
-{
-    now[lent_now++] = lent;
-    return lend(lent, from, 4 * n, 4, chance(&drawn, 50));
-}
-
-static uint32_t *room(struct lent *lent, size_t n)
-{
-    now[lent_now++] = lent;
-    int at_end = chance(&drawn, 50);
-    return lend_room(lent, 4 * n, 4, at_end, draw(&drawn));
-}
-
-/* What was lent holds what it must, and the bytes beside it were kept. */
-static void check_lent(struct lent *lent)
-{
-    long byte = wrong_byte(lent);
-    if (byte == NONE)
-        return;
-    if (byte < 0 || (size_t)byte >= lent->bytes)
-        fail_beside(lent, byte);
-    size_t first = (size_t)byte / lent->unit * lent->unit;
-    uint32_t found = 0, expected = 0;
-    memcpy(&found, lent->at + first, lent->unit);
-    memcpy(&expected, (uint8_t *)must_hold(lent) + first, lent->unit);
-    fail(lent->name, (long)(first / lent->unit), found, expected);
+    open_call(doors[door]);
 }
 
 /* The answer is the expected one, and so is everything that was lent. */
@@ -160,10 +95,7 @@ static void end_call(uint32_t found, uint32_t expected)
     answered[door][expected]++;
     if (found != expected)
         fail("the answer", 0, found, expected);
-    for (size_t i = 0; i < lent_now; i++) {
-        check_lent(now[i]);
-        give_back(now[i]);
-    }
+    close_call();
 }
 
 /* Just enough room, more, or less; `enough` is what it takes, `most` what may be lent. */
@@ -386,9 +318,10 @@ static uint32_t try_review(const struct tables *tables, const uint32_t *steps, s
 {
     static struct review expected;
     begin_call(REVIEW);
-    const uint32_t *c = numbers(&commands, tables->commands, tables->numbers), *l = numbers(&lengths, tables->lengths, tables->threads);
-    const uint32_t *s = numbers(&schedule, steps, n);
-    uint32_t *r = room(&relation, lent.relation), *g = room(&generations, lent.generations), *e = room(&evidence, lent.evidence), *a = room(&answer, told);
+    const uint32_t *c = lend_numbers(&commands, tables->commands, tables->numbers), *l = lend_numbers(&lengths, tables->lengths, tables->threads);
+    const uint32_t *s = lend_numbers(&schedule, steps, n);
+    uint32_t *r = lend_places(&relation, lent.relation), *g = lend_places(&generations, lent.generations);
+    uint32_t *e = lend_places(&evidence, lent.evidence), *a = lend_places(&answer, told);
     is_called = 1;
     uint32_t got = probe_review(c, tables->numbers, l, tables->threads, s, n, r, lent.relation, g, lent.generations, e, lent.evidence, a, told);
     is_called = 0;
@@ -411,8 +344,8 @@ static void try_schedule(const struct tables *tables, size_t steps_room, size_t 
 {
     static struct schedule expected;
     begin_call(SCHEDULE);
-    const uint32_t *c = numbers(&commands, tables->commands, tables->numbers), *l = numbers(&lengths, tables->lengths, tables->threads);
-    uint32_t *s = room(&schedule, steps_room), *a = room(&answer, told);
+    const uint32_t *c = lend_numbers(&commands, tables->commands, tables->numbers), *l = lend_numbers(&lengths, tables->lengths, tables->threads);
+    uint32_t *s = lend_places(&schedule, steps_room), *a = lend_places(&answer, told);
     is_called = 1;
     uint32_t got = probe_schedule(c, tables->numbers, l, tables->threads, s, steps_room, a, told);
     is_called = 0;
@@ -457,9 +390,8 @@ static void try_read(const uint8_t *bytes, size_t length, size_t told)
     size_t numbers_room = some_room(at_most(3 * expected.commands, MOST_NUMBERS), MOST_NUMBERS);
     size_t lengths_room = some_room(at_most(expected.threads, MOST_LENGTHS), MOST_LENGTHS);
     begin_call(READING);
-    now[lent_now++] = &text;
-    const uint8_t *t = lend(&text, bytes, length, 1, chance(&drawn, 50));
-    uint32_t *c = room(&tables_room[0], numbers_room), *l = room(&tables_room[1], lengths_room), *a = room(&answer, told);
+    const uint8_t *t = lend_text(&text, bytes, length);
+    uint32_t *c = lend_places(&tables_room[0], numbers_room), *l = lend_places(&tables_room[1], lengths_room), *a = lend_places(&answer, told);
     is_called = 1;
     uint32_t got = probe_read(t, length, c, numbers_room, l, lengths_room, a, told);
     is_called = 0;
@@ -479,19 +411,6 @@ static void try_read(const uint8_t *bytes, size_t length, size_t told)
     end_call(got, expected.verdict.number);
 }
 
-static uint8_t *lend_report(struct lent *lent, size_t bytes)
-{
-    now[lent_now++] = lent;
-    int at_end = chance(&drawn, 50);
-    return lend_room(lent, bytes, 1, at_end, draw(&drawn));
-}
-
-static const uint8_t *lend_text(const uint8_t *bytes, size_t length)
-{
-    now[lent_now++] = &text;
-    return lend(&text, bytes, length, 1, chance(&drawn, 50));
-}
-
 static void mark_text(const struct text_review *expected, uint32_t answer)
 {
     if (answer != 14 && expected->reading.verdict.number == 0)
@@ -502,7 +421,7 @@ static void try_report(const uint8_t *bytes, size_t length, const struct text_re
 {
     char front[2 * REPORT];
     begin_call(TEXTS);
-    const uint8_t *t = lend_text(bytes, length);
+    const uint8_t *t = lend_text(&text, bytes, length);
     uint8_t *r = lend_report(&report, report_room);
     is_called = 1;
     uint32_t got = review_text(t, length, r, report_room);
@@ -588,7 +507,7 @@ static void must_hold_printed(const struct text_review *expected, const uint8_t 
 static void try_exhibits(const uint8_t *bytes, size_t length, const struct text_review *expected, size_t room)
 {
     begin_call(EXHIBITS);
-    const uint8_t *t = lend_text(bytes, length);
+    const uint8_t *t = lend_text(&text, bytes, length);
     uint8_t *r = lend_report(&exhibits, room);
     is_called = 1;
     uint32_t got = review_text_evidence(t, length, r, room);
@@ -631,7 +550,7 @@ static void try_close(size_t rows, size_t words, uint32_t asked)
 {
     static uint8_t bits[ROWS][ROWS];
     begin_call(CLOSING);
-    uint32_t *r = room(&relation, words), *held = must_hold(&relation);
+    uint32_t *r = lend_places(&relation, words), *held = must_hold(&relation);
     if (chance(&drawn, rows > 140 ? 95 : 50))
         draw_thin(held, words, rows);
     else
@@ -789,7 +708,6 @@ static void all_schedules_case(void)
 
 static void try_number(void)
 {
-    seed(&drawn, seed_given, number);
     uint32_t which = below(&drawn, 1000);
     if (which < 6) {
         big_program(&drawn, &program);
@@ -824,7 +742,7 @@ static void demand_often(const char *what, const char *of, unsigned long came)
 {
     if (came >= OFTEN)
         return;
-    fprintf(stderr, "compare: seed %llu: %s%s came up %lu times, under %d\n", seed_given, of, what, came, OFTEN);
+    fprintf(stderr, "compare: seed %llu: %s%s came up %lu times, under %d\n", input.seed, of, what, came, OFTEN);
     exit(1);
 }
 
@@ -937,18 +855,17 @@ int main(int argc, char **argv)
         fprintf(stderr, "usage: compare SEED COUNT [FIRST] | compare SEED MINUTESm\n");
         return 2;
     }
-    seed_given = strtoull(argv[1], NULL, 10);
+    input.test = "compare";
+    input.seed = strtoull(argv[1], NULL, 10);
     unsigned long long count = strtoull(argv[2], &unit, 10), first = argc == 4 ? strtoull(argv[3], NULL, 10) : 0;
     time_t end = *unit == 'm' ? time(NULL) + 60 * (time_t)count : 0;
     make_all();
     check_guards();
-    struct sigaction action;
-    memset(&action, 0, sizeof action);
-    action.sa_handler = touched;
-    sigaction(SIGSEGV, &action, NULL);
-    sigaction(SIGBUS, &action, NULL);
-    for (number = first; end ? time(NULL) < end : number - first < count; number++)
+    watch_touches();
+    for (unsigned long long number = first; end ? time(NULL) < end : number - first < count; number++) {
+        begin_input(number);
         try_number();
+    }
     print_figures();
     if (getenv("COMPARE_DETAILS") != NULL)
         print_details();

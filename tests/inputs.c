@@ -275,6 +275,36 @@ static void turns(struct random *random, uint32_t commands)
         }
 }
 
+/* So many of the drafted threads that a round of so many commands each goes into the commands at least once, and two at least. */
+static uint32_t taking_part(struct random *random, uint32_t commands, uint32_t each)
+{
+    uint32_t fit = commands / (each * (1 + below(random, 2)));
+    return fit < 2 ? 2 : fit < draft.threads ? fit : draft.threads;
+}
+
+/* Each thread writes a tile, all meet, each reads another's, and they meet again, at one barrier or at two in turn. */
+static void tiles(struct random *random, uint32_t commands)
+{
+    uint32_t threads = taking_part(random, commands, 4), barriers = 1 + below(random, 2), shift = 1 + below(random, threads - 1), met = 0;
+    while (draft.rows + 4 * threads <= commands)
+        for (uint32_t half = 0; half < 2; half++, met++)
+            for (uint32_t t = 0; t < threads; t++) {
+                put(t, half == 0 ? WRITE : READ, half == 0 ? t : (t + shift) % threads, 0);
+                put(t, SYNC, met % barriers, threads);
+            }
+}
+
+/* The right to a few variables goes round: each thread says by a barrier of its own that it is the next one's turn. Round after round the barriers are the same. */
+static void ring(struct random *random, uint32_t commands)
+{
+    uint32_t part = taking_part(random, commands, 3), threads = part < BARRIERS ? part : BARRIERS, addresses = 1 + below(random, 3), turn = 0;
+    for (; draft.rows + 3 <= commands; turn = (turn + 1) % threads) {
+        put(turn, chance(random, 70) ? WRITE : READ, below(random, addresses), 0);
+        put(turn, ARRIVE, turn, 2);
+        put((turn + 1) % threads, SYNC, turn, 2);
+    }
+}
+
 /* The same program with other names, so that the last barrier and the last address come up as the first ones do. */
 static void rename_all(struct random *random)
 {
@@ -310,6 +340,24 @@ void faulty_program(struct random *random, uint32_t threads, uint32_t most, stru
         groups(random, commands);
     }
     while (chance(random, 70) && draft.rows < draft.most)
+        put_access(random, &style, below(random, draft.threads));
+    rename_all(random);
+    lay_out(random, program);
+}
+
+void ordered_program(struct random *random, uint32_t threads, uint32_t most, struct program *program)
+{
+    uint32_t commands = most / 2 + below(random, most / 2 + 1);
+    struct style style = {1, 2, 1, 0, 0, 0};
+    begin(chance(random, 25) ? threads : 2 + below(random, threads - 1), most);
+    if (chance(random, 50))
+        tiles(random, commands);
+    else
+        ring(random, commands);
+    uint32_t what = below(random, 100);
+    if (what < 15)
+        spoil(random);
+    for (uint32_t i = what < 60 ? 0 : 1 + below(random, 3); i > 0; i--)
         put_access(random, &style, below(random, draft.threads));
     rename_all(random);
     lay_out(random, program);
@@ -545,6 +593,28 @@ size_t legal_schedule(struct random *random, const struct tables *tables, uint32
     return n;
 }
 
+size_t eager_schedule(struct random *random, const struct tables *tables, uint32_t *steps)
+{
+    uint32_t generations[ROWS], order[THREADS] = {0};
+    struct state state;
+    size_t n = 0;
+    enum did did = STEPPED;
+    for (uint32_t t = 0; t < tables->threads; t++) { /* t goes to any place among those before it */
+        uint32_t at = below(random, t + 1);
+        order[t] = order[at];
+        order[at] = t;
+    }
+    start(&state);
+    while (did == STEPPED && !is_over(tables, &state)) {
+        size_t first = 0;
+        while (!is_allowed(tables, &state, order[first]))
+            first++;
+        steps[n++] = order[first];
+        did = step(tables, &state, order[first], generations);
+    }
+    return n;
+}
+
 static size_t any_numbers(struct random *random, const struct tables *tables, uint32_t *steps)
 {
     size_t n = below(random, chance(random, 95) ? (uint32_t)rows_of(tables) + 4 : MOST_STEPS);
@@ -776,4 +846,10 @@ size_t make_text(struct random *random, const struct program *program, uint8_t *
     for (uint32_t i = chance(random, 30) ? 1 + below(random, 3) : 0; i > 0; i--)
         n = damage_bytes(random, text, n);
     return below(random, 50) == 0 ? lengthen(random, text, n) : n;
+}
+
+size_t spell_text(struct random *random, const struct program *program, uint32_t blanks, uint8_t *text)
+{
+    spell(program);
+    return join(random, blanks, 0, text);
 }

@@ -28,6 +28,12 @@ void small_program(struct random *random, uint32_t most, struct program *program
 /* At most so many threads and commands, and often a reuse fault or a race in what else ends clean. */
 void faulty_program(struct random *random, uint32_t threads, uint32_t most, struct program *program);
 
+/*
+ * At most so many threads and commands, which are two and 16 at least. Barriers that are mostly used again put every conflict in order; then, now and then, one row is spoiled, or
+ * there are a few accesses more, which nothing orders.
+ */
+void ordered_program(struct random *random, uint32_t threads, uint32_t most, struct program *program);
+
 /* Up to 512 rows and 64 threads, and often just so many. */
 void big_program(struct random *random, struct program *program);
 
@@ -46,7 +52,13 @@ size_t make_schedule(struct random *random, const struct tables *tables, uint32_
 /* A legal complete schedule by random choice, of tables that pass 1 to 3. */
 size_t legal_schedule(struct random *random, const struct tables *tables, uint32_t *steps);
 
+/* Another, of such tables: the threads in some order, and always the first of them that is allowed. */
+size_t eager_schedule(struct random *random, const struct tables *tables, uint32_t *steps);
+
 /* The program in the written notation with random blanks, and often damaged; answers how many bytes. */
 size_t make_text(struct random *random, const struct program *program, uint8_t *text);
+
+/* The same, never damaged, with at most so many blanks at a place where none are needed. */
+size_t spell_text(struct random *random, const struct program *program, uint32_t blanks, uint8_t *text);
 
 #endif

@@ -45,7 +45,7 @@ static uint8_t *beside_of(const struct lent *lent)
 static void place(struct lent *lent, size_t length, size_t unit, int at_end)
 {
     if (length + BESIDE > lent->capacity) {
-        fprintf(stderr, "compare: %s has no room for %lu bytes\n", lent->name, (unsigned long)length);
+        fprintf(stderr, "tests: %s has no room for %lu bytes\n", lent->name, (unsigned long)length);
         exit(2);
     }
     lent->bytes = length;

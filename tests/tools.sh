@@ -48,7 +48,13 @@ make_archives() {
 
 # build_compare PROGRAM: the comparison with the reference, over both archives. Its files are compiled as one, since it plays millions of schedules step by step.
 build_compare() {
-  "${cc[@]}" -std=c99 -pedantic -Wall -Wextra -Werror -O2 -flto -o "$1" tests/compare.c tests/reference.c tests/evidence.c tests/printed.c tests/schedules.c tests/lent.c tests/inputs.c \
+  "${cc[@]}" -std=c99 -pedantic -Wall -Wextra -Werror -O2 -flto -o "$1" tests/compare.c tests/reference.c tests/evidence.c tests/printed.c tests/schedules.c tests/call.c tests/lent.c \
+    tests/inputs.c target/staticlib/libprobe.a target/staticlib/libdesk.a
+}
+
+# build_files PROGRAM: the comparison of the reviews of one program with each other.
+build_files() {
+  "${cc[@]}" -std=c99 -pedantic -Wall -Wextra -Werror -O2 -flto -o "$1" tests/files.c tests/reference.c tests/call.c tests/lent.c tests/inputs.c \
     target/staticlib/libprobe.a target/staticlib/libdesk.a
 }
 

@@ -4,6 +4,9 @@
  * from what was written. What is printed for tests/vectors/cases is compared with tests/vectors/answers, which was worked out from documents 01 and 02, and where
  * these are open from docs/DECISIONS.md, apart from the code.
  *
+ * Three programs are reviewed by several legal complete schedules (2026-10). A, which is clean, and B, which races, leave one file by all of theirs. C leaves two by
+ * 0 1 2 3 and 0 2 1 3, both with verdict 10: which commands meet in one generation hangs on the schedule offered, and so do the pairs.
+ *
  * A case is a line:
  *     NAME: COMMANDS / LENGTHS / SIZES               the schedule writer, and the review of what it wrote
  *     NAME: COMMANDS / LENGTHS / SIZES / SCHEDULE    the review of a schedule that is given
