@@ -56,7 +56,7 @@ module _ (text : List ℕ) where
 pub record TextEvidenced (text room room′ : List ℕ) (n : ℕ) : Type 0 where
   -- 14: a short report room, tested before all else, room untouched
   pub refuses : length room < leastEvidence → (n ≡ 14) × (room′ ≡ room)
-  -- else the verdict number alone, and the report with the exhibits after it; bytes after those are kept
+  -- else the verdict number alone, and the report with the exhibits after it: all of them hang on the text alone; bytes after those are kept
   pub answers : leastEvidence ≤ length room → n ≡ ofText text .told .number
   pub prints : leastEvidence ≤ length room → room′ ≡ over (report (ofText text) ++ textExhibits text) room
   -- they always have room

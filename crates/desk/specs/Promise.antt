@@ -55,7 +55,7 @@ pub record Possible (text : List ℕ) (t : Told) : Type 0 where
 pub record TextReviewed (text room room′ : List ℕ) (n : ℕ) : Type 0 where
   -- 14: a short report room, tested before all else, room untouched
   pub refuses : length room < leastRoom → (n ≡ 14) × (room′ ≡ room)
-  -- else the verdict number alone, and the report; bytes after it are kept
+  -- else the verdict number alone, and the report: both hang on the text alone (OneReport says more); bytes after the report are kept
   pub answers : leastRoom ≤ length room → n ≡ ofText text .told .number
   pub prints : leastRoom ≤ length room → room′ ≡ over (report (ofText text)) room
   -- any report has room
