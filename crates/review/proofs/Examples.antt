@@ -25,7 +25,7 @@ use Rattle.verdicts.specs.declared.Told.{Told}
 use Rattle.replay.specs.InOrder.{orElse}
 use Rattle.review.specs.Judge.{verdictOf, generations, reaches}
 use Rattle.review.specs.Agreement.{Review, File, file, Passes}
-use Rattle.review.specs.Examples.{examples, all, same, word, below, holds, fourSyncs, TenDiffers}
+use Rattle.review.specs.Examples.{examples, all, same, word, below, holds, fourSyncs, oneEach, TenDiffers}
 
 pub every : all holds examples ≡ true
 unfolding all holds examples same word below
@@ -37,16 +37,15 @@ every = refl
 -- what the definitions tell of C, by two schedules
 abbrev told : List ℕ → Told
 told σ =
-    orElse (judged (1 ∷ 1 ∷ 1 ∷ 1 ∷ []) (played fourSyncs (1 ∷ 1 ∷ 1 ∷ 1 ∷ []) σ))
-    (faultTold fourSyncs (1 ∷ 1 ∷ 1 ∷ 1 ∷ []) (generations fourSyncs (1 ∷ 1 ∷ 1 ∷ 1 ∷ []) σ) (reaches fourSyncs (1 ∷ 1 ∷ 1 ∷ 1 ∷ []) σ))
+    orElse (judged oneEach (played fourSyncs oneEach σ))
+    (faultTold fourSyncs oneEach (generations fourSyncs oneEach σ) (reaches fourSyncs oneEach σ))
 
 two-told : (told (0 ∷ 1 ∷ 2 ∷ 3 ∷ []) ≡ tell 10 0 2) × (told (0 ∷ 2 ∷ 1 ∷ 3 ∷ []) ≡ tell 10 0 1)
-unfolding mostRows mostThreads addresses barriers mostCount total firstRow threadOf lowest rowKeeps firstBad checked
-    rounds width edge reach start mayStep allowed registering running stepped playing played ended sheetOf
-    succeeds reuse conflict race alongRow allRows faults judged
+unfolding mostRows mostThreads barriers total firstRow threadOf lowest start mayStep allowed registering running stepped playing played ended
+    succeeds reuse alongRow allRows faults judged
 two-told = (refl, refl)
 
-is-told : (r : Review fourSyncs (1 ∷ 1 ∷ 1 ∷ 1 ∷ [])) → Passes r → numbered (r .found .verdict) ≡ told (r .schedule)
+is-told : (r : Review fourSyncs oneEach) → Passes r → numbered (r .found .verdict) ≡ told (r .schedule)
 unfolding verdictOf
 is-told r p = rw p at (r .meets .demand₂ .verdict)
 

@@ -50,9 +50,12 @@ example commands lengths schedule verdict pairs total generations relation =
       relation = relation;
     }
 
--- the commands of C
+-- the tables of C: four syncs, and a thread for each
 abbrev pub fourSyncs : List ℕ
 fourSyncs = 3 ∷ 0 ∷ 2 ∷ 3 ∷ 0 ∷ 2 ∷ 3 ∷ 0 ∷ 2 ∷ 3 ∷ 0 ∷ 2 ∷ []
+
+abbrev pub oneEach : List ℕ
+oneEach = 1 ∷ 1 ∷ 1 ∷ 1 ∷ []
 
 -- A row of commands is kind, name, count. Kind 0 read, 1 write, 2 arrive, 3 sync; reads and writes have count 0.
 unfoldable pub examples : List Example
@@ -73,13 +76,13 @@ examples =
     ∷ example (2 ∷ 0 ∷ 2 ∷ 1 ∷ 7 ∷ 0 ∷ 0 ∷ 7 ∷ 0 ∷ 3 ∷ 0 ∷ 2 ∷ []) (2 ∷ 2 ∷ []) (1 ∷ 0 ∷ 0 ∷ 1 ∷ [])
     (tell 11 1 2) (pair 1 2 ∷ []) 1 unsaid unsaid
     -- C: sync 0 2 || sync 0 2 || sync 0 2 || sync 0 2, schedule 0 1 2 3: 10, place 0 2, total 4, pairs 0 2, 1 2, 0 3, 1 3
-    ∷ example fourSyncs (1 ∷ 1 ∷ 1 ∷ 1 ∷ []) (0 ∷ 1 ∷ 2 ∷ 3 ∷ [])
+    ∷ example fourSyncs oneEach (0 ∷ 1 ∷ 2 ∷ 3 ∷ [])
     (tell 10 0 2) (pair 0 2 ∷ pair 1 2 ∷ pair 0 3 ∷ pair 1 3 ∷ []) 4 unsaid unsaid
     -- C by another schedule, 0 2 1 3: 10 again, and another file, since others meet first (2026-10)
-    ∷ example fourSyncs (1 ∷ 1 ∷ 1 ∷ 1 ∷ []) (0 ∷ 2 ∷ 1 ∷ 3 ∷ [])
+    ∷ example fourSyncs oneEach (0 ∷ 2 ∷ 1 ∷ 3 ∷ [])
     (tell 10 0 1) (pair 0 1 ∷ pair 2 1 ∷ pair 0 3 ∷ pair 2 3 ∷ []) 4 unsaid unsaid
     -- D: arrive 0 2 || arrive 0 2 || arrive 0 2 || arrive 0 2, schedule 0 1 2 3: the same as C
-    ∷ example (2 ∷ 0 ∷ 2 ∷ 2 ∷ 0 ∷ 2 ∷ 2 ∷ 0 ∷ 2 ∷ 2 ∷ 0 ∷ 2 ∷ []) (1 ∷ 1 ∷ 1 ∷ 1 ∷ []) (0 ∷ 1 ∷ 2 ∷ 3 ∷ [])
+    ∷ example (2 ∷ 0 ∷ 2 ∷ 2 ∷ 0 ∷ 2 ∷ 2 ∷ 0 ∷ 2 ∷ 2 ∷ 0 ∷ 2 ∷ []) oneEach (0 ∷ 1 ∷ 2 ∷ 3 ∷ [])
     (tell 10 0 2) (pair 0 2 ∷ pair 1 2 ∷ pair 0 3 ∷ pair 1 3 ∷ []) 4 unsaid unsaid
     -- E: sync 0 2 || (second thread empty), schedule 0: 8, command 0
     ∷ example (3 ∷ 0 ∷ 2 ∷ []) (1 ∷ 0 ∷ []) (0 ∷ []) (tell 8 0 0) [] 0 unsaid unsaid
@@ -172,5 +175,5 @@ module _ (e : Example) where
 -- Why `OneFile` (Agreement) excepts 10: whatever rooms C is reviewed in, schedules 0 1 2 3 and 0 2 1 3 both get 10, and leave two files.
 abbrev pub TenDiffers : Type 0
 TenDiffers =
-    (a b : Review fourSyncs (1 ∷ 1 ∷ 1 ∷ 1 ∷ [])) → Passes a → Passes b → a .schedule ≡ 0 ∷ 1 ∷ 2 ∷ 3 ∷ [] → b .schedule ≡ 0 ∷ 2 ∷ 1 ∷ 3 ∷ []
+    (a b : Review fourSyncs oneEach) → Passes a → Passes b → a .schedule ≡ 0 ∷ 1 ∷ 2 ∷ 3 ∷ [] → b .schedule ≡ 0 ∷ 2 ∷ 1 ∷ 3 ∷ []
     → (number (a .found) ≡ 10) × (number (b .found) ≡ 10) × (file a ≢ file b)
