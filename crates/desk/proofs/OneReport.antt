@@ -46,5 +46,6 @@ module _ {commands lengths : List ℕ} (r : Review commands lengths) (s : settle
       let h : sheetOf (pairsOf commands lengths) ≡ r .found .sheet = ap sheetOf (one-pairs writer-settles (settling r s)) ∙ sym (r .meets .demand₂ .sheet (settled-fills (number (r .found)) s)) in
       rw (settled-fills (toldOf commands lengths .number) (writer-settles .settled), t, h)
 
+-- that the verdict settles is computed from what the claim asks of it
 pub same-as-review : SameAsReview
-same-as-review x text A r s = denoted-concluded text x (A .denotes) (A .within) ∙ concluded r s
+same-as-review x text A r s = denoted-concluded text x (A .denotes) (A .within) ∙ concluded r (rw s)

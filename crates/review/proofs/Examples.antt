@@ -24,7 +24,7 @@ use Rattle.verdicts.specs.Verdicts.{tell, numbered}
 use Rattle.verdicts.specs.declared.Told.{Told}
 use Rattle.replay.specs.InOrder.{orElse}
 use Rattle.review.specs.Judge.{verdictOf, generations, reaches}
-use Rattle.review.specs.Agreement.{Review, File, file, Passes}
+use Rattle.review.specs.Agreement.{Review, SameFile, Unrefused}
 use Rattle.review.specs.Examples.{examples, all, same, word, below, holds, fourSyncs, oneEach, TenDiffers}
 
 pub every : all holds examples ≡ true
@@ -45,7 +45,7 @@ unfolding mostRows mostThreads barriers total firstRow threadOf lowest start may
     succeeds reuse alongRow allRows faults judged
 two-told = (refl, refl)
 
-is-told : (r : Review fourSyncs oneEach) → Passes r → numbered (r .found .verdict) ≡ told (r .schedule)
+is-told : (r : Review fourSyncs oneEach) → Unrefused r → numbered (r .found .verdict) ≡ told (r .schedule)
 unfolding verdictOf
 is-told r p = rw p at (r .meets .demand₂ .verdict)
 
@@ -55,5 +55,5 @@ ten-differs a b p q e f =
     let v : numbered (b .found .verdict) ≡ tell 10 0 1 = is-told b q ∙ ap told f ∙ two-told .1 in (
       ap (λ (t : Told). t .number) u,
       ap (λ (t : Told). t .number) v,
-      λ (z : file a ≡ file b). omega (arith, ap (λ (k : File). k .verdict .also) z, ap (λ (t : Told). t .also) u, ap (λ (t : Told). t .also) v),
+      λ (z : SameFile a b). omega (arith, ap (λ (t : Told). t .also) (z .verdict), ap (λ (t : Told). t .also) u, ap (λ (t : Told). t .also) v),
     )

@@ -6,11 +6,9 @@ use mathlib.Core.List.{List}
 use Prim.Native.Nat.{ℕ, _≤_, _<_}
 use native.Mathlib.Decide.{ℕ-discrete}
 use native.Mathlib.Omega.{arith}
-use lib.ListN.{length, getD, take, drop}
-use lib.Seq.{ext-getD, length-take-le, getD-take, take-at}
+use lib.ListN.{length, getD}
 use borrow.Author.Tests.{ne-eqb}
 use Rattle.tables.specs.Rows.{rows}
-use Rattle.verdicts.specs.Verdicts.{numbered}
 use Rattle.verdicts.specs.declared.Told.{Told}
 use Rattle.relation.specs.Table.{words}
 use Rattle.relation.proofs.Truth.{clashing, same-test}
@@ -36,7 +34,8 @@ use Rattle.faults.specs.Faults.{faults}
 use Rattle.faults.proofs.Pairs.{same-faults}
 use Rattle.findings.specs.Findings.{faultTold, faultPairs}
 use Rattle.review.specs.Judge.{generations, reaches, verdictOf, fills}
-use Rattle.review.specs.Agreement.{number, Review, file, settles, OneFile, OneForAll}
+use Rattle.review.specs.Agreement.{number, Review, settles, OneFile, OneForAll}
+use Rattle.review.proofs.Rooms.{put-front}
 use Rattle.review.proofs.Judging.{told, judges}
 
 -- ---- 0 and 11
@@ -101,11 +100,11 @@ module _ {commands lengths σ : List ℕ} {relation room : ℕ} (S : Settling co
   settled-told = subst (λ (t : Told). settles (t .number) ≡ true) judged-told (S .settled)
 
   -- the offered schedule is legal and complete, and all of them agree
-  pub agrees : Complete commands lengths σ × Agree commands lengths
+  agrees : Complete commands lengths σ × Agree commands lengths
   agrees = judges (admits .keeps) σ .agreement .0 (settled-number (told (admits .keeps) σ .number) settled-told)
 
   -- what is told is what the faults say
-  pub faults-told : verdictOf commands lengths σ relation room ≡ faulty
+  faults-told : verdictOf commands lengths σ relation room ≡ faulty
   faults-told =
       let j = judged lengths (played commands lengths σ) in
       judged-told ∙ sym (or-second j faulty (first-zero j faulty (judged-small (admits .keeps) σ) settled-told))
@@ -154,12 +153,6 @@ module _ {commands lengths σ τ : List ℕ} {relation room relation₂ room₂ 
 
 -- ---- two reviews of one program
 
--- the same numbers in front
-same-front : (r s : List ℕ) (n : ℕ) → n ≤ length r → n ≤ length s → ((p : ℕ) → p < n → getD r p 0 ≡ getD s p 0) → take n r ≡ take n s
-same-front r s n lr ls same =
-    ext-getD 0 (take n r) (take n s) (length-take-le n r lr ∙ sym (length-take-le n s ls))
-    (λ p h. let l : p < n = omega (arith, length-take-le n r lr) in getD-take n r p 0 l ∙ same p l ∙ sym (getD-take n s p 0 l))
-
 module _ {commands lengths : List ℕ} (r : Review commands lengths) (s : settles (number (r .found)) ≡ true) where
   pub settling : Settling commands lengths (r .schedule) (length (r .relation)) (length (r .room))
   settling = record { settled = subst (λ (t : Told). settles (t .number) ≡ true) (r .meets .demand₂ .verdict) s }
@@ -170,36 +163,33 @@ module _ {commands lengths : List ℕ} (r : Review commands lengths) (s : settle
   reached : Reached commands lengths (generations commands lengths (r .schedule)) (r .relation) (r .relation′)
   reached = r .meets .demand₂ .relation-holds filled
 
-  words-fit : words (rows commands) ≤ length (r .relation′)
-  words-fit = omega (arith, reached .len, admits settling .relation-fits)
-
-  gens-fit : rows commands ≤ length (played commands lengths (r .schedule) .generations)
-  gens-fit =
+  gens-are : (c : ℕ) → c < rows commands → getD (r .room′) c 0 ≡ generations commands lengths (r .schedule) c
+  gens-are c l =
+      let g = played commands lengths (r .schedule) .generations in
       let A = agrees settling in
       let K = admits settling .keeps in
-      omega (arith, K .few-rows, clean-through K (r .schedule) (A .1 .clean (r .schedule) (A .0) .through) .gens .long)
-
-  gens-front : take (rows commands) (r .room′) ≡ take (rows commands) (played commands lengths (r .schedule) .generations)
-  gens-front =
-      let g = played commands lengths (r .schedule) .generations in
-      ap (λ (l : List ℕ). take (rows commands) l) (r .meets .demand₂ .room-holds filled)
-      ∙ take-at (take (rows commands) g) (drop (rows commands) (r .room)) (rows commands) (length-take-le (rows commands) g gens-fit)
+      let fits : rows commands ≤ length g =
+      omega (arith, K .few-rows, clean-through K (r .schedule) (A .1 .clean (r .schedule) (A .0) .through) .gens .long) in
+      ap (λ (l : List ℕ). getD l c 0) (r .meets .demand₂ .room-holds filled) ∙ put-front g (r .room) (rows commands) fits c l
 
 module _ {commands lengths : List ℕ} where
+  -- how far the rooms are the same is the claim's to say; here it is shown that this is not too far
   pub one-file : OneFile commands lengths
   one-file a b s t =
       let sa = settling a s in
       let sb = settling b t in
       let alike = one-generations sa sb in
-      let v : numbered (a .found .verdict) ≡ numbered (b .found .verdict) = a .meets .demand₂ .verdict ∙ one-told sa sb ∙ sym (b .meets .demand₂ .verdict) in
-      let h : a .found .sheet ≡ b .found .sheet = a .meets .demand₂ .sheet (filled a s) ∙ ap sheetOf (one-pairs sa sb) ∙ sym (b .meets .demand₂ .sheet (filled b t)) in
-      let w : take (words (rows commands)) (a .relation′) ≡ take (words (rows commands)) (b .relation′) =
-      same-front (a .relation′) (b .relation′) (words (rows commands)) (words-fit a s) (words-fit b t)
-      (holds-same (a .relation) (b .relation) (a .relation′) (b .relation′) (rows commands) _ (a .in-words) (b .in-words) (reached a s)
-      (same-reached commands lengths _ _ (λ c l. sym (alike c l)) (b .relation) (b .relation′) (reached b t))) in
-      let g : take (rows commands) (a .room′) ≡ take (rows commands) (b .room′) =
-      gens-front a s ∙ same-front _ _ (rows commands) (gens-fit a s) (gens-fit b t) alike ∙ sym (gens-front b t) in
-      cc
+      record {
+        verdict = a .meets .demand₂ .verdict ∙ one-told sa sb ∙ sym (b .meets .demand₂ .verdict);
+        sheet = a .meets .demand₂ .sheet (filled a s) ∙ ap sheetOf (one-pairs sa sb) ∙ sym (b .meets .demand₂ .sheet (filled b t));
+        relation = λ p l.
+            let h : p < words (rows commands) = omega arith in
+            holds-same (a .relation) (b .relation) (a .relation′) (b .relation′) (rows commands) _ (a .in-words) (b .in-words) (reached a s)
+            (same-reached commands lengths _ _ (λ c l. sym (alike c l)) (b .relation) (b .relation′) (reached b t)) p h;
+        generations = λ c l.
+            let h : c < rows commands = omega arith in
+            gens-are a s c h ∙ alike c h ∙ sym (gens-are b t c h);
+      }
 
   pub one-for-all : OneForAll commands lengths
   one-for-all a b s c pass =

@@ -5,13 +5,11 @@ use mathlib.Core.List.{List, []}
 use mathlib.Core.Logic.{_⊎_, _↔_, _≢_}
 use Prim.Native.Nat.{ℕ, _≤_, _<_}
 use lib.Dec.{eqb}
-use lib.ListN.{length, getD, take}
+use lib.ListN.{length, getD}
 use Rattle.tables.specs.Rows.{rows}
 use Rattle.verdicts.specs.Verdicts.{tell, numbered}
-use Rattle.verdicts.specs.declared.Told.{Told}
 use Rattle.relation.specs.Bits.{Words}
 use Rattle.relation.specs.Table.{words}
-use Rattle.sheet.specs.declared.Sheet.{Sheet}
 use Rattle.findings.specs.declared.finding.Finding.{Finding}
 use Rattle.replay.specs.Replay.{played}
 use Rattle.order.specs.Order.{Reached}
@@ -79,40 +77,31 @@ pub record Review (commands lengths : List ℕ) : Type 0 where
   pub meets : Reviewed commands lengths schedule relation room found relation′ room′
   pub in-words : Words relation′
 
--- What is filed of it: the verdict with its places, the sheet with its total, the words of the relation, M × ⌈M/32⌉, and the M generations. The rest of each
--- room is its owner's, and is kept (`relation-beyond`, `room-beyond` of Safe).
-pub record File : Type 0 where
-  pub verdict : Told
-  pub sheet : Sheet
-  pub relation : List ℕ
-  pub generations : List ℕ
-
-abbrev pub file : {commands lengths : List ℕ} → Review commands lengths → File
-file {commands} r =
-    record {
-      verdict = numbered (r .found .verdict);
-      sheet = r .found .sheet;
-      relation = take (words (rows commands)) (r .relation′);
-      generations = take (rows commands) (r .room′);
-    }
+-- Two of them leave one file: the same verdict with its places, the same sheet with its total, the same words of the relation, M × ⌈M/32⌉, and the same M
+-- generations. Beyond these each room is its owner's, and keeps what it held (`relation-beyond`, `room-beyond` of Safe).
+pub record SameFile {commands lengths : List ℕ} (a b : Review commands lengths) : Type 0 where
+  pub verdict : numbered (a .found .verdict) ≡ numbered (b .found .verdict)
+  pub sheet : a .found .sheet ≡ b .found .sheet
+  pub relation : (p : ℕ) → p < words (rows commands) → getD (a .relation′) p 0 ≡ getD (b .relation′) p 0
+  pub generations : (c : ℕ) → c < rows commands → getD (a .room′) c 0 ≡ getD (b .room′) c 0
 
 -- 0 and 11, the verdicts of programs whose schedules agree
 abbrev pub settles : ℕ → Bool
 settles n = eqb n 0 || eqb n 11
 
 -- its tables and rooms passed refusals 1 to 4
-abbrev pub Passes : {commands lengths : List ℕ} → Review commands lengths → Type 0
-Passes {commands} {lengths} r = refused commands lengths (length (r .relation)) (length (r .room)) ≡ tell 0 0 0
+abbrev pub Unrefused : {commands lengths : List ℕ} → Review commands lengths → Type 0
+Unrefused {commands} {lengths} r = refused commands lengths (length (r .relation)) (length (r .room)) ≡ tell 0 0 0
 
 module _ (commands lengths : List ℕ) where
   -- Any two reviews of one program that both end in 0 or 11 leave one file, whatever schedules they were offered and whatever rooms they were lent.
-  -- Excepted is what hangs on the schedule offered:
+  -- Excepted is what hangs on the schedule offered, or may:
   --   verdict 10: which commands meet in a generation, and so which pairs are at fault (`TenDiffers` of Examples: one program, two files);
-  --   evidence (2026-04): any schedules will do that show the fault;
+  --   evidence (2026-04): for 10 it speaks against the schedule offered, and for 11 any schedules will do that show the race;
   --   the sets of 2026-06: who is let go, and when.
   abbrev pub OneFile : Type 0
-  OneFile = (a b : Review commands lengths) → settles (number (a .found)) ≡ true → settles (number (b .found)) ≡ true → file a ≡ file b
+  OneFile = (a b : Review commands lengths) → settles (number (a .found)) ≡ true → settles (number (b .found)) ≡ true → SameFile a b
 
   -- And one such review speaks for all: who offers any legal and complete schedule, with rooms that pass, ends with its file.
   abbrev pub OneForAll : Type 0
-  OneForAll = (a b : Review commands lengths) → settles (number (a .found)) ≡ true → Complete commands lengths (b .schedule) → Passes b → file a ≡ file b
+  OneForAll = (a b : Review commands lengths) → settles (number (a .found)) ≡ true → Complete commands lengths (b .schedule) → Unrefused b → SameFile a b

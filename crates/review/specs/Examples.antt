@@ -1,6 +1,5 @@
 -- The starred examples of document 01, as document 02 has changed them: one table, and the one test that each of its rows is to pass.
 use mathlib.Core.Path.{_≡_}
-use mathlib.Core.Logic.{_≢_}
 use mathlib.Core.Bool.{Bool, true, false, cond, _&&_}
 use mathlib.Core.List.{List, [], _∷_, _++_}
 use Prim.Native.Nat.{ℕ, zero, suc, _+_, _*_, _^_}
@@ -16,7 +15,7 @@ use Rattle.replay.specs.Replay.{played}
 use Rattle.sheet.specs.Sheet.{pair, sheetOf}
 use Rattle.findings.specs.Findings.{faultPairs}
 use Rattle.review.specs.Judge.{verdictOf, generations, reaches, fills}
-use Rattle.review.specs.Agreement.{number, Review, Passes, file}
+use Rattle.review.specs.Agreement.{number, Review, SameFile, Unrefused}
 
 -- ---- the table
 
@@ -175,5 +174,5 @@ module _ (e : Example) where
 -- Why `OneFile` (Agreement) excepts 10: whatever rooms C is reviewed in, schedules 0 1 2 3 and 0 2 1 3 both get 10, and leave two files.
 abbrev pub TenDiffers : Type 0
 TenDiffers =
-    (a b : Review fourSyncs oneEach) → Passes a → Passes b → a .schedule ≡ 0 ∷ 1 ∷ 2 ∷ 3 ∷ [] → b .schedule ≡ 0 ∷ 2 ∷ 1 ∷ 3 ∷ []
-    → (number (a .found) ≡ 10) × (number (b .found) ≡ 10) × (file a ≢ file b)
+    (a b : Review fourSyncs oneEach) → Unrefused a → Unrefused b → a .schedule ≡ 0 ∷ 1 ∷ 2 ∷ 3 ∷ [] → b .schedule ≡ 0 ∷ 2 ∷ 1 ∷ 3 ∷ []
+    → (number (a .found) ≡ 10) × (number (b .found) ≡ 10) × ¬ SameFile a b
