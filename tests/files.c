@@ -1,7 +1,7 @@
 /*
  * One program, one file: request 2026-10. "For one program, any two schedules that both get 0 or 11 leave the same generations, the same relation words, the same verdict, the
- * same sheet and the same total." Each program is reviewed by several legal complete schedules, the writer's among them, each time in rooms of other lengths and with other junk,
- * and what the reviews left is compared between them. No file is worked out here: compare.c does that.
+ * same sheet and the same total." Each program is reviewed by several legal complete schedules, the writer's among them, each time in rooms of its own, just as long as is asked or
+ * longer, with other junk, and what the reviews left is compared between them. No file is worked out here: compare.c does that.
  *
  *   files SEED COUNT         numbered programs of that seed, until COUNT of them got 0 or 11
  *   files SEED COUNT FIRST   the same from number FIRST on, to repeat a failure
