@@ -1,0 +1,110 @@
+// The lanes of a warp as words of 32 bits: bit t of each belongs to lane t.
+ghost use mathlib.Core.Path.{_≡_};
+ghost use Rattle.lanes.specs.Words.{wokenBy, brokenBy, returnedBy, leaving, onlyActive, highestOf, allOf};
+
+// The active mask and the disable states: the lanes that broke off a loop, and those that returned.
+pub struct Lanes {
+    pub active: u32,
+    pub broke: u32,
+    pub returned: u32,
+}
+
+impl Lanes {
+    // A token comes off the stack: 0 sync, 1 div, 2 brk, any other number call.
+    pub fn wake(self, kind: u32, mask: u32) -> Self
+        ensures { λ r. ⌜ r ≡ wokenBy self kind mask ⌝ }
+    {
+        if kind < 2 {
+            let some = mask ^ (mask & self.broke);
+            return Lanes {
+                active: some ^ (some & self.returned),
+                broke: self.broke,
+                returned: self.returned,
+            };
+        }
+        if kind == 2 {
+            let broke = self.broke ^ (self.broke & mask);
+            let some = mask ^ (mask & broke);
+            return Lanes {
+                active: some ^ (some & self.returned),
+                broke: broke,
+                returned: self.returned,
+            };
+        }
+        let some = mask ^ (mask & self.broke);
+        let returned = self.returned ^ (self.returned & mask);
+        Lanes {
+            active: some ^ (some & returned),
+            broke: self.broke,
+            returned: returned,
+        }
+    }
+
+    // The active lanes break off.
+    pub fn break_off(self) -> Self
+        ensures { λ r. ⌜ r ≡ brokenBy self ⌝ }
+    {
+        Lanes {
+            active: 0,
+            broke: self.broke | self.active,
+            returned: self.returned,
+        }
+    }
+
+    // The active lanes return.
+    pub fn give_up(self) -> Self
+        ensures { λ r. ⌜ r ≡ returnedBy self ⌝ }
+    {
+        Lanes {
+            active: 0,
+            broke: self.broke,
+            returned: self.returned | self.active,
+        }
+    }
+
+    // The active lanes but those in a mask.
+    pub fn leave_out(self, mask: u32) -> Self
+        ensures { λ r. ⌜ r ≡ leaving self mask ⌝ }
+    {
+        Lanes {
+            active: self.active ^ (self.active & mask),
+            broke: self.broke,
+            returned: self.returned,
+        }
+    }
+
+    // These lanes are active.
+    pub fn only(self, mask: u32) -> Self
+        ensures { λ r. ⌜ r ≡ onlyActive self mask ⌝ }
+    {
+        Lanes {
+            active: mask,
+            broke: self.broke,
+            returned: self.returned,
+        }
+    }
+}
+
+// The highest lane of a mask, or 0.
+pub fn highest(mask: u32) -> u32
+    ensures { λ r. ⌜ r ≡ highestOf 32 mask ⌝ }
+{
+    let mut t = 32u32;
+    while t > 0 {
+        if (mask >> (t - 1)) % 2 == 1 {
+            return t - 1;
+        }
+        t -= 1;
+    }
+    0
+}
+
+// The mask of the first n lanes; there are 32.
+pub fn all_of(n: u32) -> u32
+    ensures { λ r. ⌜ r ≡ allOf n ⌝ }
+{
+    if n < 32 {
+        return (1u32 << n) - 1;
+    }
+    4294967295
+}
