@@ -1,0 +1,3 @@
+-- Read in this order: Filling (the value of a row from those of the rows before it); Lanewise (the lanes for which it is not 0).
+pub mod Filling
+pub mod Lanewise

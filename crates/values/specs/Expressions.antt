@@ -1,0 +1,37 @@
+-- What the rows of expressions denote, and what the code makes of them.
+use mathlib.Core.Bool.{_&&_, cond}
+use mathlib.Core.List.{List}
+use Prim.Native.Nat.{ℕ, zero, suc, _+_, _-_, _*_, _%_, _^_}
+use lib.Bits.{bitOr}
+use lib.Dec.{eqb, ltb}
+use Rattle.relation.specs.Bits.{bitOf}
+use Rattle.warps.specs.Language.{Expr, literal, cell, lane, plus, minus, less, Mem, test}
+use Rattle.kernels.specs.Limits.{mostExpressions}
+use Rattle.kernels.specs.Rows.{exprKind, exprX, exprY}
+
+-- by its kind: 0 a number, 1 a cell, 2 the lane's number, 3 sum, 4 difference, 5 less-than
+abbrev pub exprBy : (kind x : ℕ) → Expr → Expr → Expr
+exprBy kind x a b =
+    cond (eqb kind 0) (literal x) (cond (eqb kind 1) (cell x) (cond (eqb kind 2) lane (cond (eqb kind 3) (plus a b) (cond (eqb kind 4) (minus a b) (less a b)))))
+
+module _ (e : List ℕ) where
+  -- row i, its operands at most f levels deep; an operand that is no earlier row is 0
+  unfoldable pub exprAt : (f i : ℕ) → Expr
+  exprAt zero i = literal 0
+  exprAt (suc f) i =
+      exprBy (exprKind e i) (exprX e i) (cond (ltb (exprX e i) i) (exprAt f (exprX e i)) (literal 0)) (cond (ltb (exprY e i) i) (exprAt f (exprY e i)) (literal 0))
+
+  -- operands are earlier rows, so that row i is no more than i levels deep; a row past the limit is 0
+  abbrev pub expression : ℕ → Expr
+  expression i = cond (ltb i mostExpressions) (exprAt (suc i) i) (literal 0)
+
+-- the value of a row, from those of its operands and of cell x
+abbrev pub valueBy : (kind x a b held t : ℕ) → ℕ
+valueBy kind x a b held t =
+    cond (eqb kind 0) x
+    (cond (eqb kind 1) held (cond (eqb kind 2) t (cond (eqb kind 3) ((a + b) % 2 ^ 32) (cond (eqb kind 4) ((a + 2 ^ 32 - b) % 2 ^ 32) (cond (ltb a b) 1 0)))))
+
+-- act, as a word: of the lanes below n, those in a mask for which e is not 0
+unfoldable pub acting : (mask : ℕ) → Expr → Mem → (n : ℕ) → ℕ
+acting mask e μ zero = 0
+acting mask e μ (suc n) = cond (bitOf mask n && test e n μ) (bitOr (acting mask e μ n) (1 * 2 ^ n)) (acting mask e μ n)

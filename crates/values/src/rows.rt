@@ -1,0 +1,86 @@
+// The rows of expressions one after the other.
+ghost use mathlib.Core.Path.{_≡_};
+ghost use mathlib.Core.Bool.{cond};
+ghost use Prim.Native.Nat.{_<_, _≤_};
+ghost use lib.Dec.{ltb};
+ghost use lib.ListN.{length, getD};
+ghost use Rattle.warps.specs.Language.{eval};
+ghost use Rattle.kernels.specs.Limits.{mostExpressions};
+ghost use Rattle.values.specs.Expressions.{expression, valueBy};
+use kernels::Kernel;
+
+// The number at a place, or 0 past the end.
+pub fn at(numbers: &[u32], i: usize) -> u32
+    ensures { λ r. ⌜ r ≡ getD (now (numbers .entry)) i 0 ⌝ }
+{
+    if i < numbers.len() {
+        return numbers[i];
+    }
+    0
+}
+
+// The value of an operand, if it is an earlier row, or 0.
+fn operand(values: &[u32], x: u32, i: usize) -> u32
+    ensures { λ r. ⌜ r ≡ cond (ltb x i) (getD (now (values .entry)) x 0) 0 ⌝ }
+{
+    if (x as usize) < i {
+        return at(values, x as usize);
+    }
+    0
+}
+
+// What a row makes of its operands' values.
+fn row_value(kind: u32, x: u32, a: u32, b: u32, held: u32, lane: u32) -> u32
+    ensures { λ r. ⌜ r ≡ valueBy kind x a b held lane ⌝ }
+{
+    if kind == Kernel::NUMBER {
+        return x;
+    }
+    if kind == Kernel::CELL {
+        return held;
+    }
+    if kind == Kernel::LANE {
+        return lane;
+    }
+    if kind == Kernel::SUM {
+        return std::num::wrapping_add_u32(a, b);
+    }
+    if kind == Kernel::DIFFERENCE {
+        return std::num::wrapping_sub_u32(a, b);
+    }
+    if a < b { 1 } else { 0 }
+}
+
+// The value of row `root` for a lane, with room for those of the rows before it; what the room holds does not count.
+pub(crate) fn evaluate(
+    expressions: &[u32],
+    root: usize,
+    lane: u32,
+    cells: &[u32],
+    values: &mut [u32],
+) -> u32
+    requires { ⌜ (root < mostExpressions) × (mostExpressions ≤ length (now values)) ⌝ }
+    ensures { λ r. ⌜ r ≡ eval (expression (now (expressions .entry)) root) lane (now (cells .entry)) ⌝ }
+{
+    let mut i = 0;
+    while i <= root {
+        let x = at(expressions, 3 * i + 1);
+        let y = at(expressions, 3 * i + 2);
+        let a = operand(values, x, i);
+        let b = operand(values, y, i);
+        values[i] = row_value(at(expressions, 3 * i), x, a, b, at(cells, x as usize), lane);
+        i += 1;
+    }
+    values[root]
+}
+
+// The value of row `root` for a lane, or 0 past the limit.
+pub fn value(expressions: &[u32], root: usize, lane: u32, cells: &[u32]) -> u32
+    ensures { λ r. ⌜ r ≡ eval (expression (now (expressions .entry)) root) lane (now (cells .entry)) ⌝ }
+{
+    if root >= Kernel::EXPRESSIONS {
+        return 0;
+    }
+    let mut values = [0u32; Kernel::EXPRESSIONS];
+    evaluate(expressions, root, lane, cells, &mut values)
+}
