@@ -16,9 +16,22 @@ stateBy false false = on
 abbrev pub stateOf : Lanes → DisableMask
 stateOf L t = stateBy (bitOf (L .broke) t) (bitOf (L .returned) t)
 
--- the type of a token by its number
+-- the types of tokens by number
+abbrev pub syncToken : ℕ
+syncToken = 0
+
+abbrev pub divToken : ℕ
+divToken = 1
+
+abbrev pub brkToken : ℕ
+brkToken = 2
+
+abbrev pub callToken : ℕ
+callToken = 3
+
+-- a number past them is a call
 abbrev pub tokenType : ℕ → TokenType
-tokenType kind = cond (eqb kind 0) sync (cond (eqb kind 1) div (cond (eqb kind 2) brk call))
+tokenType kind = cond (eqb kind syncToken) sync (cond (eqb kind divToken) div (cond (eqb kind brkToken) brk call))
 
 -- the bits of a that are not in b
 abbrev pub except : ℕ → ℕ → ℕ
@@ -27,8 +40,8 @@ except a b = bitXor a (bitAnd a b)
 -- (token): a brk clears its lanes' b, a call their r; then those of its mask are active that are not disabled
 abbrev pub wokenBy : Lanes → (kind mask : ℕ) → Lanes
 wokenBy L kind mask =
-    let b = cond (eqb kind 2) (except (L .broke) mask) (L .broke) in
-    let r = cond (ltb 2 kind) (except (L .returned) mask) (L .returned) in
+    let b = cond (eqb kind brkToken) (except (L .broke) mask) (L .broke) in
+    let r = cond (ltb brkToken kind) (except (L .returned) mask) (L .returned) in
     record { active = except (except mask b) r; broke = b; returned = r }
 
 -- (break): nobody is active, and those who were have b

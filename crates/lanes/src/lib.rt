@@ -2,6 +2,19 @@
 ghost use mathlib.Core.Path.{_≡_};
 ghost use Rattle.lanes.specs.Words.{wokenBy, brokenBy, returnedBy, leaving, onlyActive, highestOf, allOf};
 
+// The types of tokens, by number.
+pub struct Token;
+
+impl Token {
+    pub const SYNC: u32 = 0;
+
+    pub const DIV: u32 = 1;
+
+    pub const BRK: u32 = 2;
+
+    pub const CALL: u32 = 3;
+}
+
 // The active mask and the disable states: the lanes that broke off a loop, and those that returned.
 pub struct Lanes {
     pub active: u32,
@@ -10,11 +23,11 @@ pub struct Lanes {
 }
 
 impl Lanes {
-    // A token comes off the stack: 0 sync, 1 div, 2 brk, any other number call.
+    // A token comes off the stack. A number past the types is a call.
     pub fn wake(self, kind: u32, mask: u32) -> Self
         ensures { λ r. ⌜ r ≡ wokenBy self kind mask ⌝ }
     {
-        if kind < 2 {
+        if kind < Token::BRK {
             let some = mask ^ (mask & self.broke);
             return Lanes {
                 active: some ^ (some & self.returned),
@@ -22,7 +35,7 @@ impl Lanes {
                 returned: self.returned,
             };
         }
-        if kind == 2 {
+        if kind == Token::BRK {
             let broke = self.broke ^ (self.broke & mask);
             let some = mask ^ (mask & broke);
             return Lanes {

@@ -1,0 +1,13 @@
+-- What the parts of a step ask for.
+use Prim.Native.Nat.{ℕ, _≤_}
+use mathlib.Core.List.{List}
+use lib.ListN.{length}
+use Rattle.kernels.specs.Limits.{mostStatements}
+use Rattle.kernels.specs.Rows.{statements}
+use Rattle.machine.specs.Entries.{mostEntries, stackRoom}
+
+-- at most 256 statements, a stack's room, and a stack in it that is not over its limit
+pub record Roomy (s room : List ℕ) (height : ℕ) : Type 0 where
+  pub few : statements s ≤ mostStatements
+  pub wide : stackRoom ≤ length room
+  pub low : height ≤ mostEntries
