@@ -34,6 +34,10 @@ module _ (s room : List ℕ) (height : ℕ) where
   unfolding workable mostStatements
   by-height h k = rw (le-leb (statements s) 256 h, le-leb stackRoom (length room) k)
 
+  pub works : statements s ≤ mostStatements → stackRoom ≤ length room → height ≤ mostEntries → workable s room height ≡ true
+  unfolding workable
+  works few wide low = rw (le-leb (statements s) mostStatements few, le-leb stackRoom (length room) wide, le-leb height mostEntries low)
+
   pub roomy : workable s room height ≡ true → Roomy s room height
   unfolding workable
   roomy e =

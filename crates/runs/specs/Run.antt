@@ -1,0 +1,73 @@
+-- A run of at most so many steps from the start of a kernel, and what the door answers.
+use mathlib.Core.Path.{_≡_}
+use mathlib.Core.Bool.{Bool, cond, _||_}
+use mathlib.Core.List.{List}
+use Prim.Native.Nat.{ℕ, zero, suc}
+use lib.Dec.{eqb, ltb}
+use lib.ListN.{length}
+use Rattle.warps.specs.Language.{Mem}
+use Rattle.kernels.specs.Limits.{cellCount}
+use Rattle.kernels.specs.Refusals.{rulingOf}
+use Rattle.machine.specs.Entries.{mostEntries}
+use Rattle.machine.specs.Step.{Warp, next, startOf}
+use Rattle.runs.specs.declared.Answer.{Answer}
+
+-- how a run ends
+abbrev pub finished : ℕ
+finished = 1
+
+abbrev pub usedUp : ℕ
+usedUp = 2
+
+abbrev pub wouldOverfill : ℕ
+wouldOverfill = 3
+
+-- how it ended, after how many steps, and where
+pub record Outcome : Type 0 where
+  pub ending : ℕ
+  pub taken : ℕ
+  pub last : Warp
+
+-- nothing is left on the stack
+abbrev pub isOver : Warp → Bool
+isOver w = eqb (length (w .stack)) 0
+
+module _ (s e : List ℕ) where
+  -- the stack has more than 256 entries, or would have after the next step
+  unfoldable pub overfills : Warp → Bool
+  overfills w = ltb mostEntries (length (w .stack)) || ltb mostEntries (length (next s e w .stack))
+
+  -- with `left` steps left and `taken` taken: finished, used up, would overfill, tested in this order; else a step
+  unfoldable pub run : (left taken : ℕ) → Warp → Outcome
+  run zero taken w = record { ending = cond (isOver w) finished usedUp; taken = taken; last = w }
+  run (suc left) taken w =
+      cond (isOver w) (record { ending = finished; taken = taken; last = w })
+      (cond (overfills w) (record { ending = wouldOverfill; taken = taken; last = w })
+      (run left (suc taken) (next s e w)))
+
+  abbrev pub runFrom : (lanes steps : ℕ) → Mem → Outcome
+  runFrom lanes steps μ = run steps 0 (startOf s lanes μ)
+
+-- ---- the door
+
+-- what is told, and the cells
+pub record Told : Type 0 where
+  pub answer : Answer
+  pub cells : Mem
+
+abbrev pub refused : (number place : ℕ) → Mem → Told
+refused number place μ = record { answer = record { number = number; place = place; ending = 0; taken = 0 }; cells = μ }
+
+abbrev pub ran : Outcome → Told
+ran o = record { answer = record { number = 0; place = 0; ending = o .ending; taken = o .taken }; cells = o .last .cells }
+
+-- fewer than 64 cells are 17 at place 0; then the tables' refusals; then the run
+unfoldable pub toldOf : (s e : List ℕ) (lanes steps : ℕ) → Mem → Told
+toldOf s e lanes steps μ =
+    cond (ltb (length μ) cellCount) (refused 17 0 μ)
+    (cond (eqb (rulingOf s e lanes .number) 0) (ran (runFrom s e lanes steps μ))
+    (refused (rulingOf s e lanes .number) (rulingOf s e lanes .place) μ))
+
+-- what `run_kernel` promises
+abbrev pub RunsKernel : (s e : List ℕ) (lanes steps : ℕ) (μ μ′ : Mem) → Answer → Type 0
+RunsKernel s e lanes steps μ μ′ answer = _≡_ {A = Told} (record { answer = answer; cells = μ′ }) (toldOf s e lanes steps μ)

@@ -1,0 +1,104 @@
+// Runs of a kernel by a warp, of at most so many steps, for any numbers in any place.
+ghost use mathlib.Core.Path.{_≡_};
+ghost use Prim.Native.Nat.{_≤_};
+ghost use Rattle.kernels.specs.Limits.{mostStatements};
+ghost use Rattle.kernels.specs.Rows.{statements};
+ghost use Rattle.runs.specs.Run.{Told, ran, runFrom, RunsKernel};
+use kernels::Kernel;
+use kernels::ruling;
+use machine::Stack;
+use machine::start;
+use machine::step;
+
+// How a run ends.
+pub struct Ending;
+
+impl Ending {
+    pub const FINISHED: u32 = 1;
+
+    pub const USED_UP: u32 = 2;
+
+    pub const WOULD_OVERFILL: u32 = 3;
+}
+
+// The number of a refusal with its place, or 0; how the run ended, or 0; and how many steps it took.
+pub struct Answer {
+    pub number: u32,
+    pub place: usize,
+    pub ending: u32,
+    pub taken: u64,
+}
+
+// A run from the start. A step that would overfill is made, told, and leaves the cells as they were.
+fn run_from(code: &[u32], expressions: &[u32], lanes: u32, cells: &mut [u32], steps: u64) -> Answer
+    requires { ⌜ statements (now code) ≤ mostStatements ⌝ }
+    ensures { λ r. ⌜ _≡_ {A = Told} (record { answer = r; cells = now (cells .exit) }) (ran (runFrom (now (code .entry)) (now (expressions .entry)) lanes steps (now (cells .entry)))) ⌝ }
+{
+    let mut stack = [0u64; Stack::ROOM];
+    let mut stand = start(code, lanes, &mut stack);
+    let mut taken = 0u64;
+    while stand.height > 0 {
+        if taken == steps {
+            return Answer {
+                number: 0,
+                place: 0,
+                ending: Ending::USED_UP,
+                taken: taken,
+            };
+        }
+        if stand.height > Stack::ENTRIES {
+            return Answer {
+                number: 0,
+                place: 0,
+                ending: Ending::WOULD_OVERFILL,
+                taken: taken,
+            };
+        }
+        stand = step(code, expressions, stand, &mut stack, cells);
+        if stand.height > Stack::ENTRIES {
+            return Answer {
+                number: 0,
+                place: 0,
+                ending: Ending::WOULD_OVERFILL,
+                taken: taken,
+            };
+        }
+        taken += 1;
+    }
+    Answer {
+        number: 0,
+        place: 0,
+        ending: Ending::FINISHED,
+        taken: taken,
+    }
+}
+
+// Refusals 17 and 18, or the run. Cells past the 64th are kept, and a refusal keeps them all.
+pub fn run_kernel(
+    code: &[u32],
+    expressions: &[u32],
+    lanes: u32,
+    cells: &mut [u32],
+    steps: u64,
+) -> Answer
+    ensures { λ r. ⌜ RunsKernel (now (code .entry)) (now (expressions .entry)) lanes steps (now (cells .entry)) (now (cells .exit)) r ⌝ }
+{
+    if cells.len() < Kernel::CELLS {
+        return Answer {
+            number: 17,
+            place: 0,
+            ending: 0,
+            taken: 0,
+        };
+    }
+    let found = ruling(code, expressions, lanes);
+    if found.number != 0 {
+        return Answer {
+            number: found.number,
+            place: found.place,
+            ending: 0,
+            taken: 0,
+        };
+    }
+    run_from(code, expressions, lanes, cells, steps)
+}
