@@ -1,0 +1,4 @@
+-- Read in this order: Limits; Rows (the two tables of a kernel, and what stands in them); Refusals (which tables are refused, with 17 or 18, and where).
+pub mod Limits
+pub mod Rows
+pub mod Refusals
