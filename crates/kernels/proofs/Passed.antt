@@ -1,15 +1,15 @@
 -- What tables have that are not refused. Assumes nothing.
-use mathlib.Core.Path.{_≡_, ap}
-use mathlib.Core.Logic.{by-cases}
-use mathlib.Core.Bool.{false, not}
+use mathlib.Core.Path.{_≡_, refl, ap}
+use mathlib.Core.Logic.{⊎-elim, by-cases}
+use mathlib.Core.Bool.{Bool, true, false, not, cond, _||_}
 use mathlib.Core.List.{List}
 use Prim.Native.Nat.{ℕ, _/_, _%_, _≤_, _<_}
 use native.Mathlib.Decide.{decLt}
 use native.Mathlib.Omega.{arith}
 use lib.Dec.{eqb, ltb}
 use lib.ListN.{length}
-use borrow.Author.Tests.{ltb-false, eqb-true, eqb-false, not-false, le-ltb, eq-eqb, ne-eqb}
-use Rattle.relation.proofs.Truth.{isnt, neither}
+use borrow.Author.Tests.{ltb-true, ltb-false, eqb-true, eqb-false, not-false, le-ltb, eq-eqb, ne-eqb}
+use Rattle.relation.proofs.Truth.{split, isnt, neither}
 use Rattle.tables.proofs.Lowest.{lowest-miss}
 use Rattle.kernels.specs.declared.kernel.Ruling.{Ruling}
 use Rattle.kernels.specs.Limits.{mostStatements, mostExpressions, mostLanes}
@@ -78,6 +78,29 @@ module _ (s e : List ℕ) (lanes : ℕ) where
         each-statement = lowest-miss (badStatement s (expressions e)) (statements s) (le-ltb _ _ (statements-pass z));
         each-break = lowest-miss (strayBreak s) (statements s) (le-ltb _ _ (breaks-pass z));
       }
+
+  few-rows : badTables s e lanes ≡ false → statements s ≤ mostStatements
+  unfolding badTables
+  few-rows t =
+      let (t₄, each) = neither _ (someBadExpression e) t in
+      let (t₃, te) = neither _ (badLength 3 mostExpressions (length e)) t₄ in
+      let (t₂, ts) = neither (eqb lanes 0 || ltb mostLanes lanes) (badLength 5 mostStatements (length s)) t₃ in
+      good-length 5 mostStatements (length s) ts .1
+
+  at-row : (b : Bool) (x y : Ruling) → (b ≡ true → x .place ≤ mostStatements) → y .place ≤ mostStatements → cond b x y .place ≤ mostStatements
+  at-row true x y p q = p refl
+  at-row false x y p q = q
+
+  -- a refusal's place is a row of the table, or 0
+  pub ruling-place : rulingOf s e lanes .place ≤ mostStatements
+  unfolding rulingOf
+  ruling-place =
+      ⊎-elim (λ (t : badTables s e lanes ≡ true). rw t (omega arith))
+      (λ (t : badTables s e lanes ≡ false).
+      rw t
+      (at-row (ltb (firstBadStatement s (expressions e)) (statements s)) (rule 17 (firstBadStatement s (expressions e))) _ (λ b. omega (arith, few-rows t, ltb-true (firstBadStatement s (expressions e)) (statements s) b))
+      (at-row (ltb (firstStrayBreak s) (statements s)) (rule 18 (firstStrayBreak s)) (rule 0 0) (λ b. omega (arith, few-rows t, ltb-true (firstStrayBreak s) (statements s) b)) (omega arith))))
+      (split (badTables s e lanes))
 
   no-bad-tables : Passed s e lanes → badTables s e lanes ≡ false
   unfolding badTables badLength

@@ -24,7 +24,11 @@ use Rattle.replay.specs.declared.writer.Written.{Written}
 use Rattle.replay.proofs.Refusals.{or-either, unwritten-keeps}
 use Rattle.replay.proofs.Places.{Placed, placed, checked-placed, schedule-few}
 use Rattle.review.specs.Agreement.{number}
-use Rattle.probe.specs.Numbers.{Counted, PairsCounted}
+use Rattle.kernels.specs.Limits.{mostStatements}
+use Rattle.runs.specs.declared.Answer.{Answer}
+use Rattle.runs.specs.Run.{RunsKernel}
+use Rattle.runs.proofs.Places.{place-few}
+use Rattle.probe.specs.Numbers.{largest, Counted, PairsCounted}
 use Rattle.evidence.specs.declared.door.Evidence.{Evidence}
 use Rattle.evidence.specs.Doors.{Evidenced}
 use Rattle.evidence.proofs.Bounds.{evidence-small, evidence-sheet, entries-few}
@@ -97,3 +101,11 @@ pub rest-in : (r : Reading) (n : ℕ) → restAt r n ≤ n
 rest-in (Unfit p) n = omega arith
 rest-in Over n = omega arith
 rest-in (Accepted m t) n = omega arith
+
+-- ---- the run of a warp
+
+pub warp-counted : (statements expressions : List ℕ) (lanes steps : ℕ) (cells cells′ : List ℕ) (r : Answer) → RunsKernel statements expressions lanes steps cells cells′ r → r .ending ≤ largest
+    → Counted (tell (r .number) (r .place) 0) (r .ending) 0
+unfolding mostStatements
+warp-counted statements expressions lanes steps cells cells′ r R h =
+    record { place = omega (arith, place-few statements expressions lanes steps cells cells′ r R); also = omega arith; third = h; fourth = omega arith }

@@ -34,6 +34,12 @@ module _ (t : Told) (a b : ℕ) (w : List ℕ) where
       F : Filling (four ++ x ∷ []) (x ∷ []) w (over four w) 4
       F = record { front = four; long = refl; all-is = refl; now-is = refl; fits = h }
 
+  pub told-and-two : (x y : ℕ) → 6 ≤ length w → set (set (over four w) 4 x) 5 y ≡ over (four ++ x ∷ y ∷ []) w
+  told-and-two x y h = filling-done (filling-more y (filling-more x F)) refl
+    where
+      F : Filling (four ++ x ∷ y ∷ []) (x ∷ y ∷ []) w (over four w) 4
+      F = record { front = four; long = refl; all-is = refl; now-is = refl; fits = h }
+
 -- ---- the pairs of a sheet after them
 
 pub pairs-length : (ps : List Pair) → length (pairNumbers ps) ≡ length ps * 2

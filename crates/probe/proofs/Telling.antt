@@ -1,10 +1,10 @@
 -- What a door has put into its answer room is what it promises to tell. Assumes nothing.
 use mathlib.Core.Path.{_≡_, refl, ap, _∙_}
 use mathlib.Core.List.{List, _++_}
-use Prim.Native.Nat.{ℕ, _-_, _≤_, _<_, min}
+use Prim.Native.Nat.{ℕ, _-_, _/_, _%_, _^_, _≤_, _<_, min}
 use native.Mathlib.Omega.{arith}
 use lib.ListN.{length, set, take, length-drop}
-use Rattle.verdicts.specs.Verdicts.{numbered}
+use Rattle.verdicts.specs.Verdicts.{tell, numbered}
 use Rattle.verdicts.specs.declared.Told.{Told}
 use Rattle.spelling.specs.Over.{over}
 use Rattle.notation.specs.Reading.{answered, restAt, restOf}
@@ -14,11 +14,13 @@ use Rattle.replay.specs.Doors.{WritesSchedule}
 use Rattle.replay.specs.declared.writer.Written.{Written}
 use Rattle.evidence.specs.declared.door.Evidence.{Evidence}
 use Rattle.evidence.specs.Doors.{Evidenced}
+use Rattle.runs.specs.declared.Answer.{Answer}
+use Rattle.runs.specs.Run.{RunsKernel}
 use Rattle.probe.specs.declared.counts.Counts.{Counts}
 use Rattle.probe.specs.Numbers.{answerRoom, largest, toldNumbers, pairNumbers, countsOf}
-use Rattle.probe.specs.Promise.{ProbesReview, ProbesSchedule, ProbesRead}
+use Rattle.probe.specs.Promise.{ProbesReview, ProbesSchedule, ProbesRead, ProbesWarp}
 use Rattle.probe.proofs.Fitting.{rest-in}
-use Rattle.probe.proofs.Putting.{told-and-more, told-and-one}
+use Rattle.probe.proofs.Putting.{told-and-more, told-and-one, told-and-two}
 
 module _ (commands lengths σ relation generations evidence answer : List ℕ) where
   pub review-short : length answer < answerRoom → ProbesReview commands lengths σ relation generations evidence answer relation generations evidence answer 14
@@ -70,3 +72,14 @@ module _ (text commands lengths answer : List ℕ) where
           rw (p, e, f, at, rest-begins text r rest s .1) (told-and-one (answered r .told) (answered r .commands) (answered r .threads) answer _ (omega arith)),
         );
       }
+
+module _ (statements expressions : List ℕ) (lanes steps : ℕ) (cells answer : List ℕ) where
+  pub warp-short : length answer < answerRoom → ProbesWarp statements expressions lanes steps cells answer cells answer 14
+  warp-short h = record { refuses = λ _. (refl, refl, refl); ran = λ l. absurd (omega arith) }
+
+  pub warp-told : {r : Answer} {cells′ answer′ : List ℕ} → answerRoom ≤ length answer → RunsKernel statements expressions lanes steps cells cells′ r
+      → answer′ ≡ over (toldNumbers (tell (r .number) (r .place) 0) (r .ending) 0) answer
+      → ProbesWarp statements expressions lanes steps cells answer cells′ (set (set answer′ 4 (r .taken % 2 ^ 32)) 5 (r .taken / 2 ^ 32)) (r .number)
+  unfolding answerRoom
+  warp-told {r} h R p =
+      record { refuses = λ l. absurd (omega arith); ran = λ _. (r, R, refl, rw p (told-and-two (tell (r .number) (r .place) 0) (r .ending) 0 answer _ _ (omega arith))) }

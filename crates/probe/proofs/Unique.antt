@@ -20,8 +20,10 @@ use Rattle.replay.proofs.Unique.{write-one}
 use Rattle.review.specs.Agreement.{number}
 use Rattle.evidence.specs.declared.door.Evidence.{Evidence}
 use Rattle.evidence.proofs.Unique.{evidence-one}
-use Rattle.probe.specs.Numbers.{answerRoom, reviewNumbers, writtenNumbers, readingNumbers}
-use Rattle.probe.specs.Promise.{ProbesReview, ProbesSchedule, ProbesRead, ProbesClose}
+use Rattle.runs.specs.Run.{Told}
+use Rattle.runs.proofs.Unique.{kernel-one}
+use Rattle.probe.specs.Numbers.{answerRoom, reviewNumbers, writtenNumbers, readingNumbers, warpNumbers}
+use Rattle.probe.specs.Promise.{ProbesReview, ProbesSchedule, ProbesRead, ProbesClose, ProbesWarp}
 
 -- words of 32 bits stand in the relation rooms
 pub probe-review-one : {commands lengths σ relation generations evidence answer ra ga ea aa rb gb eb ab : List ℕ} {n m : ℕ} → Words ra → Words rb
@@ -70,3 +72,17 @@ probe-read-one {text} {commands} {lengths} {answer} A B =
 pub probe-close-one : {relation ra rb : List ℕ} {m n k : ℕ} → Words ra → Words rb → ProbesClose relation m ra n → ProbesClose relation m rb k → (n ≡ k) × (ra ≡ rb)
 probe-close-one {relation} {m = m} wa wb A B =
     (A .answers ∙ sym (B .answers), writes-one (Chain (Related relation m)) relation _ _ m _ _ wa wb (A .closed) (B .closed) .1)
+
+pub probe-warp-one : {statements expressions : List ℕ} {lanes steps : ℕ} {cells answer ca aa cb ab : List ℕ} {n m : ℕ}
+    → ProbesWarp statements expressions lanes steps cells answer ca aa n → ProbesWarp statements expressions lanes steps cells answer cb ab m → (n ≡ m) × (ca ≡ cb) × (aa ≡ ab)
+probe-warp-one {statements} {expressions} {lanes} {steps} {cells} {answer} A B =
+    by-cases (decLt (length answer) answerRoom)
+    (λ (h : length answer < answerRoom).
+    let (p, q, t) = A .refuses h in
+    let (p′, q′, t′) = B .refuses h in
+    (p ∙ sym p′, q ∙ sym q′, t ∙ sym t′))
+    (λ (h : ¬ (length answer < answerRoom)).
+    let (r, R, p, t) = A .ran (omega arith) in
+    let (r′, R′, p′, t′) = B .ran (omega arith) in
+    let e = kernel-one statements expressions lanes steps cells _ _ r r′ R R′ in
+    (p ∙ ap (λ (z : Told). z .answer .number) e ∙ sym p′, ap (λ (z : Told). z .cells) e, t ∙ ap (λ (z : Told). over (warpNumbers (z .answer)) answer) e ∙ sym t′))

@@ -1,9 +1,9 @@
 -- The numbers that an answer room gets, from its first place on.
 use mathlib.Core.Path.{_≡_}
 use mathlib.Core.List.{List, [], _∷_, _++_}
-use Prim.Native.Nat.{ℕ, _≤_, _<_, min}
+use Prim.Native.Nat.{ℕ, _/_, _%_, _^_, _≤_, _<_, min}
 use lib.ListN.{length, getD}
-use Rattle.verdicts.specs.Verdicts.{numbered}
+use Rattle.verdicts.specs.Verdicts.{tell, numbered}
 use Rattle.verdicts.specs.declared.Told.{Told}
 use Rattle.notation.specs.Reading.{answered, restAt}
 use Rattle.notation.specs.declared.reading.Reading.{Reading}
@@ -11,6 +11,7 @@ use Rattle.replay.specs.declared.writer.Written.{Written}
 use Rattle.sheet.specs.Sheet.{mostKept, pair}
 use Rattle.sheet.specs.declared.Pair.{Pair}
 use Rattle.evidence.specs.declared.door.Evidence.{Evidence}
+use Rattle.runs.specs.declared.Answer.{Answer}
 use Rattle.probe.specs.declared.counts.Counts.{Counts}
 
 -- an answer room has at least so many numbers
@@ -45,6 +46,10 @@ countsOf r = record { commands = answered r .commands; threads = answered r .thr
 -- Those of a reading of n bytes: then commands, threads, and where the rest begins. In a text of 4 GiB or more, which is refused by 13, that is told as the largest number.
 abbrev pub readingNumbers : Reading → ℕ → List ℕ
 readingNumbers r n = toldNumbers (answered r .told) (answered r .commands) (answered r .threads) ++ min (restAt r n) largest ∷ []
+
+-- Those of a warp's run: its place, how it ended, and then the steps taken, the low half and the high half.
+abbrev pub warpNumbers : Answer → List ℕ
+warpNumbers r = toldNumbers (tell (r .number) (r .place) 0) (r .ending) 0 ++ r .taken % 2 ^ 32 ∷ r .taken / 2 ^ 32 ∷ []
 
 -- ---- what the parts ask for
 

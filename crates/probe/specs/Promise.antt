@@ -18,7 +18,9 @@ use Rattle.replay.specs.declared.writer.Written.{Written}
 use Rattle.review.specs.Agreement.{number}
 use Rattle.evidence.specs.declared.door.Evidence.{Evidence}
 use Rattle.evidence.specs.Doors.{Evidenced}
-use Rattle.probe.specs.Numbers.{answerRoom, reviewNumbers, writtenNumbers, readingNumbers}
+use Rattle.runs.specs.declared.Answer.{Answer}
+use Rattle.runs.specs.Run.{RunsKernel}
+use Rattle.probe.specs.Numbers.{answerRoom, reviewNumbers, writtenNumbers, readingNumbers, warpNumbers}
 
 -- The contract of `probe_review`.
 pub record ProbesReview (commands lengths schedule relation generations evidence answer relation′ generations′ evidence′ answer′ : List ℕ) (n : ℕ) : Type 0 where
@@ -44,3 +46,8 @@ pub record ProbesRead (text commands lengths answer commands′ lengths′ answe
 pub record ProbesClose (relation : List ℕ) (m : ℕ) (relation′ : List ℕ) (n : ℕ) : Type 0 where
   pub answers : n ≡ cond (leb (words m) (length relation)) 1 0
   pub closed : table.Writes (Chain (Related relation m)) relation relation′ m (leb (words m) (length relation))
+
+-- The contract of `probe_warp`: what `run_kernel` answers, of which its own promise leaves no choice.
+pub record ProbesWarp (statements expressions : List ℕ) (lanes steps : ℕ) (cells answer cells′ answer′ : List ℕ) (n : ℕ) : Type 0 where
+  pub refuses : length answer < answerRoom → (n ≡ 14) × (cells′ ≡ cells) × (answer′ ≡ answer)
+  pub ran : answerRoom ≤ length answer → (r : Answer) × RunsKernel statements expressions lanes steps cells cells′ r × (n ≡ r .number) × (answer′ ≡ over (warpNumbers r) answer)

@@ -1,6 +1,6 @@
-// Doors for outside tests and benchmarks, as C calls them: the review, the schedule writer, the reader and the closing of a table. A slice is a pointer
+// Doors for outside tests and benchmarks, as C calls them: the review, the schedule writer, the reader, the closing of a table and the run of a warp. A slice is a pointer
 // and a length to C. `answer` is a room of at least 36 numbers; a shorter one is answered 14, before all else, and nothing is touched.
-ghost use Rattle.probe.specs.Promise.{ProbesReview, ProbesSchedule, ProbesRead, ProbesClose};
+ghost use Rattle.probe.specs.Promise.{ProbesReview, ProbesSchedule, ProbesRead, ProbesClose, ProbesWarp};
 use crate::answer::Answer;
 use crate::answer::cut;
 use crate::answer::put_sheet;
@@ -11,6 +11,8 @@ use evidence::review_evidence;
 use notation::read;
 use notation::rest;
 use replay::write_schedule;
+use runs::run_kernel;
+use verdicts::Told;
 
 mod answer; // numbers into the answer room
 mod counts; // how many commands and threads a reading found
@@ -95,4 +97,36 @@ pub extern "C" fn probe_close(relation: &mut [u32], rows: u32) -> u32
         return 1;
     }
     0
+}
+
+// 17, 18 or 0. `answer` gets the place and 0, how the run ended and 0, and the number of steps taken, its low half and its high half.
+#[no_mangle]
+pub extern "C" fn probe_warp(
+    statements: &[u32],
+    expressions: &[u32],
+    lanes: u32,
+    cells: &mut [u32],
+    steps: u64,
+    answer: &mut [u32],
+) -> u32
+    ensures { λ n. ⌜ ProbesWarp (now (statements .entry)) (now (expressions .entry)) lanes steps (now (cells .entry)) (now (answer .entry))
+        (now (cells .exit)) (now (answer .exit)) n ⌝ }
+{
+    if answer.len() < Answer::NUMBERS {
+        return 14;
+    }
+    let ran = run_kernel(statements, expressions, lanes, cells, steps);
+    put_told(
+        answer,
+        Told {
+            number: ran.number,
+            place: ran.place,
+            also: 0,
+        },
+        ran.ending as usize,
+        0,
+    );
+    answer[4] = (ran.taken % 4294967296) as u32;
+    answer[5] = (ran.taken / 4294967296) as u32;
+    ran.number
 }
