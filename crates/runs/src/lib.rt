@@ -46,7 +46,7 @@ fn run_from(code: &[u32], expressions: &[u32], lanes: u32, cells: &mut [u32], st
                 taken: taken,
             };
         }
-        if stand.height > Stack::ENTRIES {
+        if Stack::ENTRIES < stand.height {
             return Answer {
                 number: 0,
                 place: 0,
