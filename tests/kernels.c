@@ -308,7 +308,7 @@ static void draft_lists(struct random *random, const struct style *style, uint32
 void small_kernel(struct random *random, struct drawn_kernel *kernel)
 {
     uint32_t cells = 1 + below(random, FEW_CELLS), functions = below(random, 3), lanes = 1 + below(random, 3);
-    struct style style = {cells, 3, 2, 22, 22, 15, 15, 8, 50};
+    struct style style = {cells, 4, 2, 25, 22, 25, 8, 5, 45};
     draft_lists(random, &style, 40, functions);
     lay_out(random, lanes, kernel);
 }
@@ -316,7 +316,7 @@ void small_kernel(struct random *random, struct drawn_kernel *kernel)
 void mixed_kernel(struct random *random, struct drawn_kernel *kernel)
 {
     uint32_t cells = 1 + below(random, chance(random, 80) ? 4 : CELLS), depth = 1 + below(random, 4), rows = 40 + below(random, 160), functions = below(random, 4);
-    struct style style = {cells, 5, depth, 18, 18, 15, 15, 8, 50};
+    struct style style = {cells, 6, depth, 25, 18, 25, 5, 4, 45};
     draft_lists(random, &style, rows, functions);
     lay_out(random, some_lanes(random), kernel);
 }
@@ -352,20 +352,26 @@ static void put_many(uint32_t list, uint32_t rows)
         put(list, SKIP, 0, 0, 0);
 }
 
-/* A function that calls itself or the next one first, and has much to do afterwards; it may stop calling once a cell has counted far enough. */
+/*
+ * A function that calls itself or the next one first, and has much to do afterwards, by itself, in an arm or in a loop. It stops calling where a cell has counted far enough, if it
+ * tests that.
+ */
 static void put_function(struct random *random, const struct style *style, uint32_t list, uint32_t rows)
 {
-    uint32_t next = chance(random, 70) ? list : 1 + list % draft.functions, counter = below(random, style->cells), limit = 2 + below(random, 30);
+    uint32_t next = chance(random, 70) ? list : 1 + list % draft.functions, counter = below(random, style->cells), limit = 2 + below(random, 30), how = below(random, 3);
+    uint32_t condition = chance(random, 60) ? is_under(random, counter, limit) : number(random, 1);
     put_step(random, list, counter);
-    if (chance(random, 50)) {
+    if (how == 0) {
         put(list, CALL, next, 0, 0);
-    } else {
-        uint32_t condition = is_under(random, counter, limit), then = draft.lists++, other = draft.lists++;
-        put(list, IF, condition, then, other);
-        put(then, CALL, next, 0, 0);
-        put(other, chance(random, 50) ? SKIP : RETURN, 0, 0, 0);
+        put_many(list, rows);
+        return;
     }
-    put_many(list, rows);
+    uint32_t body = draft.lists++, other = draft.lists++;
+    put(list, how == 1 ? IF : WHILE, condition, body, other);
+    put(body, CALL, next, 0, 0);
+    put_many(body, rows);
+    if (how == 1)
+        put(other, chance(random, 50) ? SKIP : RETURN, 0, 0, 0);
 }
 
 /* Long arms and bodies, one in the other. */
@@ -413,16 +419,16 @@ static void double_up(uint32_t rows)
 
 void full_kernel(struct random *random, struct drawn_kernel *kernel)
 {
-    struct style style = {1 + below(random, 4), 4, 2, 15, 15, 10, 10, 3, 60};
-    uint32_t rows = STATEMENTS - 1 + below(random, 3), functions = below(random, 3);
-    draft_lists(random, &style, chance(random, 30) ? 2 : 60, functions);
+    uint32_t cells = 1 + below(random, 4), depth = 2 * below(random, 2), rows = STATEMENTS - 1 + below(random, 3), functions = depth > 0 ? below(random, 3) : 0;
+    struct style style = {cells, 4, depth, 15, 15, 10, 10, 3, 60};
+    draft_lists(random, &style, 60, functions);
     draft.most = rows;
     if (chance(random, 50)) {
         double_up(EXPRESSIONS - 1 + below(random, 3));
         put(KERNEL, ASSIGN, 0, draft.expressions - 1, 0);
     }
     uint32_t nobodys = draft.lists++;
-    put_many(chance(random, 50) ? KERNEL : chance(random, 50) ? nobodys : 1, rows - draft.rows);
+    put_many(chance(random, 60) ? KERNEL : chance(random, 50) ? nobodys : 1, rows - draft.rows);
     lay_out(random, some_lanes(random), kernel);
 }
 
@@ -518,4 +524,73 @@ void damage_kernel(struct random *random, struct drawn_kernel *kernel)
         else
             kernel->cells_len = rooms[below(random, 8)];
     }
+}
+
+/* A row's number at its limit or just before it. */
+static uint32_t near_limit(struct random *random, size_t limit)
+{
+    return (uint32_t)limit - below(random, 2);
+}
+
+static void spoil_branch(struct random *random, struct drawn_kernel *kernel, uint32_t *row)
+{
+    uint32_t rows = (uint32_t)kernel->statements_len / IN_STATEMENT, other = IN_STATEMENT * below(random, rows), place = 3 + below(random, row[1] == IF ? 2 : 1);
+    switch (below(random, 8)) {
+    case 0:
+        row[2] = near_limit(random, kernel->expressions_len / IN_EXPRESSION);
+        break;
+    case 1:
+        row[place] = row[0]; /* its own list */
+        break;
+    case 2:
+    case 3:
+    case 4:
+        row[4] = row[3]; /* which is not looked at in a while */
+        break;
+    case 5:
+        row[place] = KERNEL;
+        break;
+    case 6:
+        row[place] = kernel->statements[other + 3]; /* another's body, or no list */
+        break;
+    default:
+        row[place] = kernel->statements[other]; /* any list */
+    }
+}
+
+static void spoil_statement(struct random *random, struct drawn_kernel *kernel, uint32_t *row)
+{
+    uint32_t rows = (uint32_t)kernel->statements_len / IN_STATEMENT, other = IN_STATEMENT * below(random, rows), how = below(random, 3);
+    if (row[1] == IF || row[1] == WHILE)
+        spoil_branch(random, kernel, row);
+    else if (row[1] == ASSIGN && how > 0)
+        row[1 + how] = near_limit(random, how == 1 ? CELLS : kernel->expressions_len / IN_EXPRESSION);
+    else if (row[1] == CALL && how > 0)
+        row[2] = kernel->statements[other + (how == 1 ? 0 : 3)];
+    else
+        row[1] = chance(random, 50) ? BREAK : near_limit(random, STATEMENT_KINDS);
+}
+
+static void spoil_expression(struct random *random, uint32_t at, uint32_t *row)
+{
+    if (row[0] == CELL)
+        row[1] = near_limit(random, CELLS);
+    else if (row[0] > LANE && at > 0)
+        row[1 + below(random, 2)] = near_limit(random, at);
+    else
+        row[0] = at == 0 || chance(random, 50) ? EXPRESSION_KINDS : CELL;
+}
+
+void spoil_kernel(struct random *random, struct drawn_kernel *kernel)
+{
+    uint32_t statements = (uint32_t)kernel->statements_len / IN_STATEMENT, expressions = (uint32_t)kernel->expressions_len / IN_EXPRESSION;
+    uint32_t which = below(random, 100);
+    if (which < 70 && statements > 0)
+        spoil_statement(random, kernel, kernel->statements + IN_STATEMENT * below(random, statements));
+    if (which >= 70 && which < 90 && expressions > 0) {
+        uint32_t at = below(random, expressions);
+        spoil_expression(random, at, kernel->expressions + IN_EXPRESSION * at);
+    }
+    if (which >= 90)
+        kernel->lanes = which < 95 ? 0 : near_limit(random, LANES + 1);
 }

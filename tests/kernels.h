@@ -35,4 +35,7 @@ void wild_kernel(struct random *random, struct drawn_kernel *kernel);
 /* Some numbers of either table, its length, the lanes or the cells' room, at and past their limits. */
 void damage_kernel(struct random *random, struct drawn_kernel *kernel);
 
+/* One row that breaks a rule, or just keeps it. */
+void spoil_kernel(struct random *random, struct drawn_kernel *kernel);
+
 #endif

@@ -23,11 +23,11 @@
 #include "threads.h"
 
 enum { ANSWER = 36, TOLD = 6, EACH = 200, FAR = 1200, OFTEN = 10 };
-enum mark { START_OVERFULL, START_FULL, JUST_FULL, BY_IF, BY_WHILE, BY_AGAIN, BY_CALL, PARTED, DISPUTED, WOKEN_BY_BRK, WOKEN_BY_CALL, LEFT_ASLEEP, LONG_RUN, FAR_END, ALL_LANES, ONE_LANE,
+enum mark { START_OVERFULL, START_FULL, JUST_FULL, BY_IF, BY_WHILE, BY_CALL, PARTED, DISPUTED, WOKEN_BY_BRK, WOKEN_BY_CALL, LEFT_ASLEEP, LONG_RUN, FAR_END, ALL_LANES, ONE_LANE,
             EMPTY, SHORT_ANSWER, DEEP, MARKS };
 
 static const char *const marks[MARKS] = {"a start of 257 entries", "a start of 256 entries", "a stack of just 256 entries after a step", "an if that would overfill", "a while that would overfill",
-                                         "a further round that would overfill", "a call that would overfill", "a branch on which lanes part", "a write of different values by several lanes",
+                                         "a call that would overfill", "a branch on which lanes part", "a write of different values by several lanes",
                                          "a lane that broke, woken by a brk token", "a lane that returned, woken by a call token",
                                          "a lane in a token's mask that stays disabled", "a finished run of over 100 steps", "an end past 200 steps", "32 lanes", "one lane", "a kernel of no statement",
                                          "an answer room that is too short", "a call within a call"};
@@ -231,6 +231,7 @@ static void mark_step(const struct kernel *kernel, const struct warp *before, co
     }
 }
 
+/* A further round of a loop comes to the height of the first, and cannot overfill. */
 static void mark_overfill(const struct kernel *kernel, const struct warp *warp)
 {
     static const int by[STATEMENT_KINDS] = {[IF] = BY_IF, [WHILE] = BY_WHILE, [CALL] = BY_CALL};
@@ -238,7 +239,7 @@ static void mark_overfill(const struct kernel *kernel, const struct warp *warp)
     if (warp->height > ENTRIES)
         marked[START_OVERFULL]++;
     else
-        marked[top.kind == WHILE_AGAIN ? BY_AGAIN : by[statement_at(kernel, top.row).kind]]++;
+        marked[by[statement_at(kernel, top.row).kind]]++;
 }
 
 static void mark_end(const struct kernel *kernel, const struct warp *warp, enum said said, uint64_t taken)
@@ -322,7 +323,7 @@ static void run_kernel(const struct kernel *kernel, int is_small)
     }
     if (said != USED_UP)
         call_past_end(kernel, &warp, said, taken);
-    else if (chance(&drawn, 10))
+    else if (chance(&drawn, 15))
         run_far(kernel, &warp, &taken);
     mark_end(kernel, &warp, say(kernel, &warp, 1) == GOES_ON ? USED_UP : say(kernel, &warp, 1), taken);
 }
@@ -336,24 +337,26 @@ static void refuse_kernel(const struct kernel *kernel, struct refusal refusal)
 
 /* ---- the kernels */
 
-/* Answers whether its steps are to be searched. */
+/* Answers whether its steps are to be searched; no cell of such a kernel may be the last, which wrong ends change. */
 static int draw_kernel(void)
 {
     uint32_t which = below(&drawn, 100);
     if (which < 8)
         small_kernel(&drawn, &drawn_kernel);
-    else if (which < 45)
+    else if (which < 38)
         mixed_kernel(&drawn, &drawn_kernel);
-    else if (which < 53)
+    else if (which < 46)
         deep_kernel(&drawn, &drawn_kernel);
-    else if (which < 61)
+    else if (which < 56)
         tall_kernel(&drawn, &drawn_kernel);
-    else if (which < 68)
+    else if (which < 65)
         full_kernel(&drawn, &drawn_kernel);
     else
         wild_kernel(&drawn, &drawn_kernel);
-    if (which >= 8 && chance(&drawn, 35))
+    if (which >= 8 && chance(&drawn, 20))
         damage_kernel(&drawn, &drawn_kernel);
+    if (which >= 8 && chance(&drawn, 25))
+        spoil_kernel(&drawn, &drawn_kernel);
     return which < 8;
 }
 
