@@ -98,7 +98,10 @@ static size_t holder_of(const struct kernel *kernel, uint32_t list)
     return row;
 }
 
-/* Does a row lie inside its own body? Walks up from the list that it lies in; a way up that is longer than the table goes round. */
+/*
+ * Does a row lie inside its own body? Walks up from the list that it lies in; a way up that is longer than the table goes round. Where two rows have a list they are both refused, as it is used
+ * twice, and the walk goes on from the first of them: by the other one an earlier row might be found at fault.
+ */
 static int is_inside_itself(const struct kernel *kernel, size_t row)
 {
     size_t at = row;
