@@ -12,6 +12,7 @@ enum { DRAFT_ROWS = STATEMENTS + MORE_ROWS, LISTS = DRAFT_ROWS + 1 };
 
 static struct draft {
     uint32_t rows, most, lists, functions; /* lists 1 to `functions` are functions */
+    uint32_t from;                         /* calls are of functions from here on */
     struct statement row[DRAFT_ROWS];
     uint32_t expressions, expression[EXPRESSIONS + MORE_ROWS][IN_EXPRESSION];
 } draft;
@@ -28,6 +29,7 @@ static void begin(uint32_t most, uint32_t functions)
     draft.most = most;
     draft.functions = functions;
     draft.lists = 1 + functions;
+    draft.from = 1;
 }
 
 /* Numbers that a kind does not use stay 0 until the layout. */
@@ -159,14 +161,20 @@ static void put_loop(struct random *random, const struct style *style, uint32_t 
     some_list(random, style, body, depth - 1, 1);
 }
 
+static void put_call(struct random *random, uint32_t list)
+{
+    int is_kernel = draft.from == 1 && below(random, 20) == 0;
+    put(list, CALL, is_kernel ? KERNEL : draft.from + below(random, 1 + draft.functions - draft.from), 0, 0);
+}
+
 /* A break is put outside of loops now and then, for 18. */
 static void put_plain(struct random *random, const struct style *style, uint32_t list, int in_loop)
 {
     uint32_t which = below(random, 100), calls = style->breaks + style->calls, returns = calls + style->returns;
     if (which < style->breaks && (in_loop || below(random, 100) == 0))
         put(list, BREAK, 0, 0, 0);
-    else if (which >= style->breaks && which < calls && draft.functions > 0)
-        put(list, CALL, below(random, 20) == 0 ? KERNEL : 1 + below(random, draft.functions), 0, 0);
+    else if (which >= style->breaks && which < calls && draft.functions >= draft.from)
+        put_call(random, list);
     else if (which >= calls && which < returns)
         put(list, RETURN, 0, 0, 0);
     else if (which < returns + style->sets)
@@ -297,19 +305,21 @@ static void lay_out(struct random *random, uint32_t lanes, struct drawn_kernel *
 
 /* ---- kinds of kernels */
 
-/* Lists for the kernel and the functions; room is shared out so that none stays without a row. */
-static void draft_lists(struct random *random, const struct style *style, uint32_t most, uint32_t functions)
+/* Lists for the kernel and the functions, which may be layered: then each calls only later ones. */
+static void draft_lists(struct random *random, const struct style *style, uint32_t most, uint32_t functions, int is_layered)
 {
     begin(most, functions);
-    for (uint32_t list = 0; list <= functions; list++)
+    for (uint32_t list = 0; list <= functions; list++) {
+        draft.from = is_layered ? list + 1 : 1;
         some_list(random, style, list, style->depth, 0);
+    }
 }
 
 void small_kernel(struct random *random, struct drawn_kernel *kernel)
 {
     uint32_t cells = 1 + below(random, FEW_CELLS), functions = below(random, 3), lanes = 1 + below(random, 3);
     struct style style = {cells, 4, 2, 25, 22, 25, 8, 5, 45};
-    draft_lists(random, &style, 40, functions);
+    draft_lists(random, &style, 40, functions, chance(random, 50));
     lay_out(random, lanes, kernel);
 }
 
@@ -317,8 +327,16 @@ void mixed_kernel(struct random *random, struct drawn_kernel *kernel)
 {
     uint32_t cells = 1 + below(random, chance(random, 80) ? 4 : CELLS), depth = 1 + below(random, 4), rows = 40 + below(random, 160), functions = below(random, 4);
     struct style style = {cells, 6, depth, 25, 18, 25, 5, 4, 45};
-    draft_lists(random, &style, rows, functions);
+    draft_lists(random, &style, rows, functions, 0);
     lay_out(random, some_lanes(random), kernel);
+}
+
+void parted_kernel(struct random *random, struct drawn_kernel *kernel)
+{
+    uint32_t cells = 2 + below(random, 3), depth = 2 + below(random, 2), functions = 1 + below(random, 3), lanes = 2 + below(random, 7);
+    struct style style = {cells, 4, depth, 45, 12, 20, 25, 15, 35};
+    draft_lists(random, &style, 120, functions, 1);
+    lay_out(random, lanes, kernel);
 }
 
 /* Each level is one branch: the next level lies in one of its arms or in its body, and beside it stands something short. */
@@ -361,12 +379,16 @@ static void put_function(struct random *random, const struct style *style, uint3
     uint32_t next = chance(random, 70) ? list : 1 + list % draft.functions, counter = below(random, style->cells), limit = 2 + below(random, 30), how = below(random, 3);
     uint32_t condition = chance(random, 60) ? is_under(random, counter, limit) : number(random, 1);
     put_step(random, list, counter);
+    uint32_t body = draft.lists++, other = draft.lists++;
     if (how == 0) {
+        if (chance(random, 50)) { /* a loop that no lane enters: its body is pushed all the same */
+            put(list, WHILE, number(random, 0), body, 0);
+            put_many(body, 1 + below(random, 60));
+        }
         put(list, CALL, next, 0, 0);
         put_many(list, rows);
         return;
     }
-    uint32_t body = draft.lists++, other = draft.lists++;
     put(list, how == 1 ? IF : WHILE, condition, body, other);
     put(body, CALL, next, 0, 0);
     put_many(body, rows);
@@ -421,7 +443,7 @@ void full_kernel(struct random *random, struct drawn_kernel *kernel)
 {
     uint32_t cells = 1 + below(random, 4), depth = 2 * below(random, 2), rows = STATEMENTS - 1 + below(random, 3), functions = depth > 0 ? below(random, 3) : 0;
     struct style style = {cells, 4, depth, 15, 15, 10, 10, 3, 60};
-    draft_lists(random, &style, 60, functions);
+    draft_lists(random, &style, 60, functions, 0);
     draft.most = rows;
     if (chance(random, 50)) {
         double_up(EXPRESSIONS - 1 + below(random, 3));
@@ -492,11 +514,13 @@ static void copy_place(struct random *random, uint32_t *table, size_t n, uint32_
     table[in_row * to + place] = table[in_row * from + place];
 }
 
-/* Some numbers more or fewer. */
+/* Some numbers more or fewer, or none. */
 static void damage_length(struct random *random, size_t *length, size_t most)
 {
-    uint32_t by = 1 + below(random, 6);
-    if (chance(random, 50))
+    uint32_t by = 1 + below(random, 6), how = below(random, 10);
+    if (how < 2)
+        *length = 0;
+    else if (how < 6)
         *length = *length > by ? *length - by : 0;
     else
         *length = *length + by < most ? *length + by : most;

@@ -20,6 +20,9 @@ void small_kernel(struct random *random, struct drawn_kernel *kernel);
 /* Up to 32 lanes; nests, loops and functions, which may call themselves and each other. */
 void mixed_kernel(struct random *random, struct drawn_kernel *kernel);
 
+/* Lanes that part, and then break, return and call, in functions that do not call themselves. */
+void parted_kernel(struct random *random, struct drawn_kernel *kernel);
+
 /* Branches in branches, as deep as 60. */
 void deep_kernel(struct random *random, struct drawn_kernel *kernel);
 

@@ -22,14 +22,14 @@
 #include "kernels.h"
 #include "threads.h"
 
-enum { ANSWER = 36, TOLD = 6, EACH = 200, FAR = 1200, OFTEN = 10 };
-enum mark { START_OVERFULL, START_FULL, JUST_FULL, BY_IF, BY_WHILE, BY_CALL, PARTED, DISPUTED, WOKEN_BY_BRK, WOKEN_BY_CALL, LEFT_ASLEEP, LONG_RUN, FAR_END, ALL_LANES, ONE_LANE,
+enum { ANSWER = 36, TOLD = 6, EACH = 200, FAR = 1200, OFTEN = 5 };
+enum mark { START_OVERFULL, START_FULL, JUST_FULL, BY_IF, BY_WHILE, BY_IDLE, BY_CALL, PARTED, DISPUTED, WOKEN_BY_BRK, WOKEN_BY_CALL, LEFT_ASLEEP, PASSED_BY, LONG_RUN, FAR_END, ALL_LANES, ONE_LANE,
             EMPTY, SHORT_ANSWER, DEEP, MARKS };
 
-static const char *const marks[MARKS] = {"a start of 257 entries", "a start of 256 entries", "a stack of just 256 entries after a step", "an if that would overfill", "a while that would overfill",
+static const char *const marks[MARKS] = {"a start of 257 entries", "a start of 256 entries", "a stack of just 256 entries after a step", "an if that would overfill", "a while that would overfill", "a while that no lane enters and that would overfill",
                                          "a call that would overfill", "a branch on which lanes part", "a write of different values by several lanes",
                                          "a lane that broke, woken by a brk token", "a lane that returned, woken by a call token",
-                                         "a lane in a token's mask that stays disabled", "a finished run of over 100 steps", "an end past 200 steps", "32 lanes", "one lane", "a kernel of no statement",
+                                         "a lane in a token's mask that stays disabled", "a lane outside of a token's mask that awaits such a token", "a finished run of over 100 steps", "an end past 200 steps", "32 lanes", "one lane", "a kernel of no statement",
                                          "an answer room that is too short", "a call within a call"};
 static const char *const reasons[REASONS] = {"accepted", "no lanes", "over 32 lanes", "a short room of cells", "part of a statement row", "over 256 statements", "part of an expression row",
                                              "over 256 expressions", "an expression of unknown kind", "an expression of an unknown cell", "an operand that is no earlier row",
@@ -200,16 +200,18 @@ static void mark_assignment(const struct kernel *kernel, const struct warp *befo
 
 static void mark_token(const struct kernel *kernel, const struct warp *before, const struct warp *after, struct entry token)
 {
-    int brk = 0, call = 0, asleep = 0;
+    int brk = 0, call = 0, asleep = 0, passed_by = 0;
     for (uint32_t lane = 0; lane < kernel->lanes; lane++) {
         int was = before->disabled[lane] != NOT_DISABLED, is = after->disabled[lane] != NOT_DISABLED;
         brk |= was && !is && token.kind == BRK_TOKEN;
         call |= was && !is && token.kind == CALL_TOKEN;
         asleep |= is && has_lane(token.mask, lane);
+        passed_by |= is && !has_lane(token.mask, lane) && awaits(after->disabled[lane], token.kind);
     }
     marked[WOKEN_BY_BRK] += (unsigned long)brk;
     marked[WOKEN_BY_CALL] += (unsigned long)call;
     marked[LEFT_ASLEEP] += (unsigned long)asleep;
+    marked[PASSED_BY] += (unsigned long)passed_by;
 }
 
 static void mark_step(const struct kernel *kernel, const struct warp *before, const struct warp *after, enum rule rule)
@@ -234,12 +236,16 @@ static void mark_step(const struct kernel *kernel, const struct warp *before, co
 /* A further round of a loop comes to the height of the first, and cannot overfill. */
 static void mark_overfill(const struct kernel *kernel, const struct warp *warp)
 {
-    static const int by[STATEMENT_KINDS] = {[IF] = BY_IF, [WHILE] = BY_WHILE, [CALL] = BY_CALL};
-    struct entry top = warp->stack[warp->height - 1];
-    if (warp->height > ENTRIES)
+    static const int by[RULES] = {[IF_W] = BY_IF, [WHILE_W] = BY_WHILE, [CALL_W] = BY_CALL};
+    static struct warp next;
+    if (warp->height > ENTRIES) {
         marked[START_OVERFULL]++;
-    else
-        marked[by[statement_at(kernel, top.row).kind]]++;
+        return;
+    }
+    next = *warp;
+    enum rule rule = warp_step(kernel, &next);
+    marked[by[rule]]++;
+    marked[BY_IDLE] += rule == WHILE_W && next.active == 0;
 }
 
 static void mark_end(const struct kernel *kernel, const struct warp *warp, enum said said, uint64_t taken)
@@ -343,13 +349,15 @@ static int draw_kernel(void)
     uint32_t which = below(&drawn, 100);
     if (which < 8)
         small_kernel(&drawn, &drawn_kernel);
-    else if (which < 38)
+    else if (which < 28)
         mixed_kernel(&drawn, &drawn_kernel);
-    else if (which < 46)
+    else if (which < 43)
+        parted_kernel(&drawn, &drawn_kernel);
+    else if (which < 49)
         deep_kernel(&drawn, &drawn_kernel);
-    else if (which < 56)
+    else if (which < 59)
         tall_kernel(&drawn, &drawn_kernel);
-    else if (which < 65)
+    else if (which < 68)
         full_kernel(&drawn, &drawn_kernel);
     else
         wild_kernel(&drawn, &drawn_kernel);
