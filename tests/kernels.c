@@ -595,6 +595,29 @@ static void spoil_statement(struct random *random, struct drawn_kernel *kernel, 
         row[1] = chance(random, 50) ? BREAK : near_limit(random, STATEMENT_KINDS);
 }
 
+/* The first row from a drawn one on, and round, that is a branch or a loop, or that is none; or how many rows there are. */
+static uint32_t find_row(struct random *random, const struct drawn_kernel *kernel, int is_branch)
+{
+    uint32_t rows = (uint32_t)kernel->statements_len / IN_STATEMENT, first = below(random, rows);
+    for (uint32_t i = 0; i < rows; i++) {
+        uint32_t row = (first + i) % rows, kind = kernel->statements[IN_STATEMENT * row + 1];
+        if ((kind == IF || kind == WHILE) == is_branch)
+            return row;
+    }
+    return rows;
+}
+
+/* Some row calls another's body. */
+static void spoil_call(struct random *random, struct drawn_kernel *kernel)
+{
+    uint32_t rows = (uint32_t)kernel->statements_len / IN_STATEMENT, from = find_row(random, kernel, 1), to = find_row(random, kernel, 0);
+    if (from == rows || to == rows)
+        return;
+    uint32_t *row = kernel->statements + IN_STATEMENT * to, *branch = kernel->statements + IN_STATEMENT * from;
+    row[1] = CALL;
+    row[2] = branch[3 + below(random, branch[1] == IF ? 2 : 1)];
+}
+
 static void spoil_expression(struct random *random, uint32_t at, uint32_t *row)
 {
     if (row[0] == CELL)
@@ -609,7 +632,9 @@ void spoil_kernel(struct random *random, struct drawn_kernel *kernel)
 {
     uint32_t statements = (uint32_t)kernel->statements_len / IN_STATEMENT, expressions = (uint32_t)kernel->expressions_len / IN_EXPRESSION;
     uint32_t which = below(random, 100);
-    if (which < 70 && statements > 0)
+    if (which < 10 && statements > 0)
+        spoil_call(random, kernel);
+    if (which >= 10 && which < 70 && statements > 0)
         spoil_statement(random, kernel, kernel->statements + IN_STATEMENT * below(random, statements));
     if (which >= 70 && which < 90 && expressions > 0) {
         uint32_t at = below(random, expressions);
