@@ -317,8 +317,8 @@ static void draft_lists(struct random *random, const struct style *style, uint32
 
 void small_kernel(struct random *random, struct drawn_kernel *kernel)
 {
-    uint32_t cells = 1 + below(random, FEW_CELLS), functions = below(random, 3), lanes = 1 + below(random, 3);
-    struct style style = {cells, 4, 2, 25, 22, 25, 8, 5, 45};
+    uint32_t cells = 1 + below(random, FEW_CELLS), functions = below(random, 3), lanes = chance(random, 10) ? 1 : 2 + below(random, 2);
+    struct style style = {cells, 4, 3, 28, 24, 25, 8, 8, 40};
     draft_lists(random, &style, 40, functions, chance(random, 50));
     lay_out(random, lanes, kernel);
 }
@@ -334,7 +334,7 @@ void mixed_kernel(struct random *random, struct drawn_kernel *kernel)
 void parted_kernel(struct random *random, struct drawn_kernel *kernel)
 {
     uint32_t cells = 2 + below(random, 3), depth = 2 + below(random, 2), functions = 1 + below(random, 3), lanes = 2 + below(random, 7);
-    struct style style = {cells, 4, depth, 45, 12, 20, 25, 15, 35};
+    struct style style = {cells, 4, depth, 40, 24, 20, 20, 20, 30};
     draft_lists(random, &style, 120, functions, 1);
     lay_out(random, lanes, kernel);
 }

@@ -22,7 +22,7 @@
 #include "kernels.h"
 #include "threads.h"
 
-enum { ANSWER = 36, TOLD = 6, EACH = 200, FAR = 1200, OFTEN = 5 };
+enum { ANSWER = 36, TOLD = 6, EACH = 200, FAR = 1200, OFTEN = 5, SMALL = 13 };
 enum mark { START_OVERFULL, START_FULL, JUST_FULL, BY_IF, BY_WHILE, BY_IDLE, BY_CALL, PARTED, DISPUTED, WOKEN_BY_BRK, WOKEN_BY_CALL, LEFT_ASLEEP, PASSED_BY, LONG_RUN, FAR_END, ALL_LANES, ONE_LANE,
             EMPTY, SHORT_ANSWER, DEEP, MARKS };
 
@@ -38,8 +38,8 @@ static const char *const reasons[REASONS] = {"accepted", "no lanes", "over 32 la
 static const char *const rules[RULES] = {"skip", "assign", "if", "while", "underlined while", "break", "call", "return", "token", "inact"};
 static const char *const ends[GOES_ON] = {"refused", "finished", "used up", "would overfill"};
 
-/* Kernels; calls; by reason, by what the last call said, by mark; steps of the reference by rule, and those searched. */
-static unsigned long kernels, calls, refused[REASONS], ended[GOES_ON], marked[MARKS], by_rule[RULES];
+/* Kernels; calls; by reason, by what the last call said, by mark; steps of the reference by rule, those searched, and of these the returns out of a loop. */
+static unsigned long kernels, calls, refused[REASONS], ended[GOES_ON], marked[MARKS], by_rule[RULES], searched_by_rule[RULES], left_loops;
 static unsigned long small, searched, wrong_ends, beyond_one_step, beyond_printed;
 static struct lent statements, expressions, cells, answer;
 static struct drawn_kernel drawn_kernel;
@@ -164,12 +164,24 @@ static int is_wrong_end_found(const struct kernel *kernel, const struct warp *be
     return reaches(kernel, right, &from, &to, most_steps(kernel)) == 1;
 }
 
-static void search_step(const struct kernel *kernel, const struct warp *before, const struct warp *after, uint64_t taken)
+/* Does a brk token with a statement of the same function below it come before the next call token? A return must skip both. */
+static int is_in_loop(const struct warp *warp)
+{
+    size_t i = warp->height;
+    while (i-- > 0 && warp->stack[i].kind != CALL_TOKEN)
+        if (warp->stack[i].kind == BRK_TOKEN)
+            return !is_token(&warp->stack[i - 1]);
+    return 0;
+}
+
+static void search_step(const struct kernel *kernel, const struct warp *before, const struct warp *after, uint64_t taken, enum rule rule)
 {
     int found = is_matched(kernel, right, before, after);
     if (found < 0)
         return;
     searched++;
+    searched_by_rule[rule]++;
+    left_loops += rule == RETURN_W && is_in_loop(after);
     if (found == 0)
         fail_search("no run of single-thread steps", before, taken);
     if (below(&drawn, 8) != 0)
@@ -270,7 +282,7 @@ static void advance(const struct kernel *kernel, struct warp *warp, uint64_t tak
     enum rule rule = warp_step(kernel, warp);
     mark_step(kernel, &before, warp, rule);
     if (is_small)
-        search_step(kernel, &before, warp, taken);
+        search_step(kernel, &before, warp, taken, rule);
 }
 
 /* What a run with so many steps says, which is one more than have been taken, or any number past the end. */
@@ -347,7 +359,10 @@ static void refuse_kernel(const struct kernel *kernel, struct refusal refusal)
 static int draw_kernel(void)
 {
     uint32_t which = below(&drawn, 100);
-    if (which < 8)
+    if (which < SMALL / 2) {
+        parted_kernel(&drawn, &drawn_kernel);
+        drawn_kernel.lanes = 2 + below(&drawn, FEW_LANES - 1);
+    } else if (which < SMALL)
         small_kernel(&drawn, &drawn_kernel);
     else if (which < 28)
         mixed_kernel(&drawn, &drawn_kernel);
@@ -361,11 +376,11 @@ static int draw_kernel(void)
         full_kernel(&drawn, &drawn_kernel);
     else
         wild_kernel(&drawn, &drawn_kernel);
-    if (which >= 8 && chance(&drawn, 20))
+    if (which >= SMALL && chance(&drawn, 20))
         damage_kernel(&drawn, &drawn_kernel);
-    if (which >= 8 && chance(&drawn, 25))
+    if (which >= SMALL && chance(&drawn, 25))
         spoil_kernel(&drawn, &drawn_kernel);
-    return which < 8;
+    return which < SMALL;
 }
 
 static void try_number(void)
@@ -469,8 +484,11 @@ static void demand_all(void)
         demand(reasons[r], "", refused[r]);
     for (int e = FINISHED; e < GOES_ON; e++)
         demand(ends[e], "a run that ", ended[e]);
-    for (int r = 0; r < RULES; r++)
+    for (int r = 0; r < RULES; r++) {
         demand(rules[r], "the rule of ", by_rule[r]);
+        demand(rules[r], "a search by the rule of ", searched_by_rule[r]);
+    }
+    demand("a search of a return out of a loop", "", left_loops);
     for (int m = 0; m < MARKS; m++)
         demand(marks[m], "", marked[m]);
     demand("a step that is not matched by assignments in one step", "", beyond_one_step);
@@ -496,7 +514,8 @@ static void print_details(void)
     for (int r = 0; r < REASONS; r++)
         printf("  %s: %lu\n", reasons[r], refused[r]);
     for (int r = 0; r < RULES; r++)
-        printf("  the rule of %s: %lu\n", rules[r], by_rule[r]);
+        printf("  the rule of %s: %lu, searched %lu\n", rules[r], by_rule[r], searched_by_rule[r]);
+    printf("  a return out of a loop, searched: %lu\n", left_loops);
     for (int m = 0; m < MARKS; m++)
         printf("  %s: %lu\n", marks[m], marked[m]);
 }
