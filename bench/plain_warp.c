@@ -6,7 +6,7 @@
 
 #include "plain_warp.h"
 
-enum { LANES = 32, CELLS = 64, ROWS = 256, ENTRIES = 256, ANSWER = 36 };
+enum { LANES = 32, CELLS = 64, ROWS = 256, ENTRIES = 256, ANSWER = 36, SLOTS = 512 };
 enum { SKIP, ASSIGN, IF, WHILE, BREAK, CALL, RETURN };
 enum { NUMBER, CELL, LANE, SUM, DIFFERENCE, LESS };
 enum { STATEMENT, AGAIN, DIV, SYNC, BRK, CALLED };
@@ -35,6 +35,7 @@ static struct program {
     const struct term *terms;
     int statements, expressions, lists;
     struct list list[ROWS];
+    int16_t slot[SLOTS];            /* where a list is found by its name: its place in `list` and one, or 0 */
     int order[ROWS], of[ROWS];      /* rows list by list; each row's list */
     int body[ROWS][2];              /* the lists that a row names, by place in `list` */
     uint8_t needs[ROWS][ROWS];      /* the rows that an expression's value needs, in order */
@@ -43,33 +44,39 @@ static struct program {
 
 /* ---- tables */
 
+static int slot_of(uint32_t name)
+{
+    int at = (int)(name * 2654435761u >> 23); /* one of SLOTS */
+    while (p.slot[at] != 0 && p.list[p.slot[at] - 1].name != name)
+        at = (at + 1) % SLOTS;
+    return at;
+}
+
 static int find(uint32_t name)
 {
-    for (int i = 0; i < p.lists; i++)
-        if (p.list[i].name == name)
-            return i;
-    return NONE;
+    return p.slot[slot_of(name)] - 1;
 }
 
 static void find_lists(void)
 {
-    int laid = 0;
+    int laid = 0, filled[ROWS];
     p.lists = 0;
+    memset(p.slot, 0, sizeof p.slot);
     for (int i = 0; i < p.statements; i++) {
-        int at = find(p.rows[i].list);
-        if (at == NONE) {
-            at = p.lists++;
-            p.list[at] = (struct list){p.rows[i].list, 0, 0, NONE, 0};
+        int slot = slot_of(p.rows[i].list);
+        if (p.slot[slot] == 0) {
+            p.list[p.lists] = (struct list){p.rows[i].list, 0, 0, NONE, 0};
+            p.slot[slot] = (int16_t)++p.lists;
         }
-        p.of[i] = at;
-        p.list[at].rows++;
+        p.of[i] = p.slot[slot] - 1;
+        p.list[p.of[i]].rows++;
     }
     for (int at = 0; at < p.lists; at++) {
-        p.list[at].first = laid;
-        for (int i = 0; i < p.statements; i++)
-            if (p.of[i] == at)
-                p.order[laid++] = i;
+        p.list[at].first = filled[at] = laid;
+        laid += p.list[at].rows;
     }
+    for (int i = 0; i < p.statements; i++)
+        p.order[filled[p.of[i]]++] = i;
 }
 
 static void use(int row, int place, uint32_t name, int is_body)
