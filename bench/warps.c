@@ -93,7 +93,7 @@ static void calls(struct task *task)
     put(task, 6, SKIP, 0, 0, 0);
 }
 
-/* An assignment and a test of 33 rows each. */
+/* A test of 38 rows and an assignment of 33. */
 static void expressions(struct task *task)
 {
     uint32_t one = term(task, NUMBER, 1, 0), e = term(task, CELL, 0, 0);
