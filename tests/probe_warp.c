@@ -378,12 +378,12 @@ static const uint32_t leaves[] = {0, CALL, 1, 0, 0, 0, ASSIGN, 2, 0, 0, 1, WHILE
 static const uint32_t leaves_terms[] = {LANE, 0, 0, NUMBER, 1, 0, NUMBER, 2, 0, LESS, 0, 2, CELL, 0, 0, NUMBER, 9, 0, LESS, 4, 5};
 static const struct program left = {"a return within loops", TABLE(leaves), TABLE(leaves_terms), NULL};
 
-static void tries_leaving(void)
+/*
+ * Rounds of six steps: the test, if, assign by those that stay, div, break by the one that leaves, sync. In the first nobody leaves, and inact stands for the break; in the fifth nobody stays,
+ * and inact stands for the assignment. Then inact, brk, assign, call.
+ */
+static void tries_breaks(void)
 {
-    /*
-     * Rounds of six steps: the test, if, assign by those that stay, div, break by the one that leaves, sync. In the first nobody leaves, and inact stands for its break; in the fifth nobody stays, and inact
-     * stands for the assignment. Then inact, brk, assign, call.
-     */
     uint32_t held[CELLS] = {4, 3};
     after(usual(&broken, 4), 33, USED_UP, 33, held);
     after(usual(&broken, 4), 1000, FINISHED, 34, held);
@@ -391,17 +391,19 @@ static void tries_leaving(void)
         uint32_t counted[CELLS] = {round < 4 ? round : 4};
         after(usual(&broken, 4), 6 * round, USED_UP, 6 * round, counted);
     }
+}
 
-    /* call; if; return (lane 1); div; call (lane 0); assign; call token; sync; assign; call token; assign; call token */
+/* call; if; return (lane 1); div; call (lane 0); assign; call token; sync; assign; call token; assign; call token */
+static void tries_returns(void)
+{
     uint32_t by[CELLS] = {0};
     after(usual(&returned, 2), 5, USED_UP, 5, by);
-    by[1] = 1; /* tid + 1 */
+    by[1] = 1;
     after(usual(&returned, 2), 6, USED_UP, 6, by);
-    by[0] = 1; /* lane 0 wrote tid + 1; lane 1 would have left 2 */
+    by[0] = 1; /* lane 1 would have left 2 */
     after(usual(&returned, 2), 9, USED_UP, 9, by);
     by[2] = 1;
     after(usual(&returned, 2), 100, FINISHED, 12, by);
-
     /* call, while, if, assign, div, return, sync; while, break, brk; if, inact, div, break, sync; inact, brk, which lanes 0 and 1 sleep through; assign, call token, assign, call token */
     uint32_t last[CELLS] = {3, 3, 3};
     after(usual(&left, 4), 100, FINISHED, 21, last);
@@ -500,13 +502,13 @@ static void tries_refusals(void)
     }
 }
 
-/* "A cells room under 64 numbers is 17 with place 0", of a kernel that is accepted, one that is 18 and one that is 17 at 0. */
+/* "A cells room under 64 numbers is 17 with place 0": of a kernel that is accepted, one that is 18 at 1, one that is 17 at 0, and one that is 17 at 1. */
 static void tries_rooms(void)
 {
-    static const char *const names[] = {"two calls of one function", "the first of two breaks", "no lanes"};
+    static const char *const names[] = {"two calls of one function", "a break in the kernel", "no lanes", "a kind of 7"};
     static const size_t rooms[] = {0, 1, 32, 63};
-    for (size_t i = 0; i < 12; i++)
-        refuses(refusal_named(names[i % 3]), rooms[i / 3], ANSWER + i % 2, 17, 0);
+    for (size_t i = 0; i < 16; i++)
+        refuses(refusal_named(names[i % 4]), rooms[i / 4], ANSWER + i % 2, 17, 0);
 }
 
 /* ---- limits */
@@ -576,7 +578,8 @@ int main(void)
     tries_unfairness();
     tries_program_4();
     tries_writes();
-    tries_leaving();
+    tries_breaks();
+    tries_returns();
     tries_refusals();
     tries_rooms();
     tries_limits();

@@ -22,15 +22,15 @@
 #include "kernels.h"
 #include "threads.h"
 
-enum { ANSWER = 36, TOLD = 6, EACH = 200, FAR = 1200, OFTEN = 5, SMALL = 13 };
+enum { ANSWER = 36, EACH = 200, FAR = 1200, OFTEN = 5, SMALL = 13 };
 enum mark { START_OVERFULL, START_FULL, JUST_FULL, BY_IF, BY_WHILE, BY_IDLE, BY_CALL, PARTED, DISPUTED, WOKEN_BY_BRK, WOKEN_BY_CALL, LEFT_ASLEEP, PASSED_BY, LONG_RUN, FAR_END, ALL_LANES, ONE_LANE,
             EMPTY, SHORT_ANSWER, DEEP, MARKS };
 
-static const char *const marks[MARKS] = {"a start of 257 entries", "a start of 256 entries", "a stack of just 256 entries after a step", "an if that would overfill", "a while that would overfill", "a while that no lane enters and that would overfill",
-                                         "a call that would overfill", "a branch on which lanes part", "a write of different values by several lanes",
-                                         "a lane that broke, woken by a brk token", "a lane that returned, woken by a call token",
-                                         "a lane in a token's mask that stays disabled", "a lane outside of a token's mask that awaits such a token", "a finished run of over 100 steps", "an end past 200 steps", "32 lanes", "one lane", "a kernel of no statement",
-                                         "an answer room that is too short", "a call within a call"};
+static const char *const marks[MARKS] = {"a start of 257 entries", "a start of 256 entries", "a stack of just 256 entries after a step", "an if that would overfill", "a while that would overfill",
+                                         "a while that no lane enters and that would overfill", "a call that would overfill", "a branch on which lanes part",
+                                         "a write of different values by several lanes", "a lane that broke, woken by a brk token", "a lane that returned, woken by a call token",
+                                         "a lane in a token's mask that stays disabled", "a lane outside of a token's mask that awaits such a token", "a finished run of over 100 steps",
+                                         "an end past 200 steps", "32 lanes", "one lane", "a kernel of no statement", "an answer room that is too short", "a call within a call"};
 static const char *const reasons[REASONS] = {"accepted", "no lanes", "over 32 lanes", "a short room of cells", "part of a statement row", "over 256 statements", "part of an expression row",
                                              "over 256 expressions", "an expression of unknown kind", "an expression of an unknown cell", "an operand that is no earlier row",
                                              "a statement of unknown kind", "an assignment to an unknown cell", "an expression that is missing", "a body that is missing", "the kernel as a body",
@@ -504,8 +504,8 @@ static void print_figures(void)
         steps += by_rule[r];
     printf("%lu kernels, %lu of them refused, in %lu calls; %lu finished, %lu used their steps up, %lu would overfill; %lu warp steps;", kernels, kernels - refused[ACCEPTED], calls, ended[FINISHED],
            ended[USED_UP], ended[WOULD_OVERFILL], steps);
-    printf(" of %lu small kernels each of %lu steps matched by single threads, and none of %lu wrong ends; not matched, as must be, %lu steps with assignments in one and %lu by the table as printed\n",
-           small, searched, wrong_ends, beyond_one_step, beyond_printed);
+    printf(" of %lu small kernels each of %lu steps matched by single threads, and none of %lu wrong ends;", small, searched, wrong_ends);
+    printf(" not matched, as must be, %lu steps with assignments in one and %lu by the table as printed\n", beyond_one_step, beyond_printed);
 }
 
 /* With WARPS_DETAILS set: how often each reason, rule and mark came. */
