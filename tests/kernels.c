@@ -634,8 +634,10 @@ void spoil_kernel(struct random *random, struct drawn_kernel *kernel)
     uint32_t which = below(random, 100);
     if (which < 10 && statements > 0)
         spoil_call(random, kernel);
-    if (which >= 10 && which < 70 && statements > 0)
-        spoil_statement(random, kernel, kernel->statements + IN_STATEMENT * below(random, statements));
+    if (which >= 10 && which < 70 && statements > 0) {
+        uint32_t at = which < 40 ? find_row(random, kernel, 1) : below(random, statements);
+        spoil_statement(random, kernel, kernel->statements + IN_STATEMENT * (at % statements));
+    }
     if (which >= 70 && which < 90 && expressions > 0) {
         uint32_t at = below(random, expressions);
         spoil_expression(random, at, kernel->expressions + IN_EXPRESSION * at);

@@ -343,7 +343,8 @@ static void run_kernel(const struct kernel *kernel, int is_small)
         call_past_end(kernel, &warp, said, taken);
     else if (chance(&drawn, 15))
         run_far(kernel, &warp, &taken);
-    mark_end(kernel, &warp, say(kernel, &warp, 1) == GOES_ON ? USED_UP : say(kernel, &warp, 1), taken);
+    said = say(kernel, &warp, 1);
+    mark_end(kernel, &warp, said == GOES_ON ? USED_UP : said, taken);
 }
 
 static void refuse_kernel(const struct kernel *kernel, struct refusal refusal)
@@ -355,15 +356,22 @@ static void refuse_kernel(const struct kernel *kernel, struct refusal refusal)
 
 /* ---- the kernels */
 
-/* Answers whether its steps are to be searched; no cell of such a kernel may be the last, which wrong ends change. */
+/* To be searched: it has nothing to do with the last cell, which wrong ends change, and so is not damaged. */
+static void draw_small(void)
+{
+    small_kernel(&drawn, &drawn_kernel);
+    if (chance(&drawn, 50))
+        return;
+    parted_kernel(&drawn, &drawn_kernel);
+    drawn_kernel.lanes = 2 + below(&drawn, FEW_LANES - 1);
+}
+
+/* Answers whether its steps are to be searched. */
 static int draw_kernel(void)
 {
     uint32_t which = below(&drawn, 100);
-    if (which < SMALL / 2) {
-        parted_kernel(&drawn, &drawn_kernel);
-        drawn_kernel.lanes = 2 + below(&drawn, FEW_LANES - 1);
-    } else if (which < SMALL)
-        small_kernel(&drawn, &drawn_kernel);
+    if (which < SMALL)
+        draw_small();
     else if (which < 28)
         mixed_kernel(&drawn, &drawn_kernel);
     else if (which < 43)
