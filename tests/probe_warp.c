@@ -317,6 +317,7 @@ static void tries_program_4(void)
         held[0] = held[0] < 32 ? held[0] : 32;
         after(run, steps, steps < 196 ? USED_UP : FINISHED, steps < 196 ? steps : 196, held);
     }
+    /* Numbers of steps whose low word is small. How many were taken is seen with a high word of 0 alone, as a run of over 2^32 steps takes too long. */
     uint32_t all[CELLS] = {32};
     after(run, (uint64_t)1 << 32, FINISHED, 196, all);
     after(run, ((uint64_t)1 << 32) + 5, FINISHED, 196, all);
