@@ -54,10 +54,12 @@ struct outcome {
     const uint32_t *cells;
 };
 
-static void must_hold_outcome(const struct outcome *it, const uint32_t *start)
+/* A refusal keeps the cells that were lent. */
+static void must_hold_outcome(const struct outcome *it)
 {
-    uint32_t *told = must_hold(&answer), *held = must_hold(&cells);
-    memcpy(held, it->number == 0 ? it->cells : start, (cells.bytes < 4 * CELLS ? cells.bytes : 4 * CELLS));
+    uint32_t *told = must_hold(&answer);
+    if (it->number == 0)
+        memcpy(must_hold(&cells), it->cells, CELLS * sizeof *it->cells);
     told[0] = it->place;
     told[1] = 0;
     told[2] = it->said;
@@ -111,7 +113,7 @@ static void call_door(const struct kernel *kernel, uint64_t steps, struct outcom
         marked[SHORT_ANSWER]++;
         it.number = 14;
     } else {
-        must_hold_outcome(&it, drawn_kernel.cells);
+        must_hold_outcome(&it);
     }
     if (found != it.number)
         fail("the number returned", 0, found, it.number);
