@@ -1,13 +1,13 @@
 /*
- * Four doors for outside tests and benchmarks: the review, the schedule writer, the reader and the closing of a table. A program that only wants
- * texts reviewed needs none of them.
+ * Five doors for outside tests and benchmarks: the review, the schedule writer, the reader, the closing of a table and the run of a warp. A program that only
+ * wants texts reviewed needs none of them.
  *
  * A slice is a pointer and a length in numbers (bytes for a text). The caller promises that every pointer is non-null, even where its length
  * is 0, and aligned; that so many numbers stand there; and that a slice that is written overlaps no other. Slices that are only read may overlap.
  *
  * For all else the library promises: whatever the numbers and lengths, each function returns, writes only the slices that are not const, and
- * answers as crates/probe/specs/Promise.antt says (ProbesReview, ProbesSchedule, ProbesRead, ProbesClose), which is proved of the code. It keeps
- * nothing between calls.
+ * answers as crates/probe/specs/Promise.antt says (ProbesReview, ProbesSchedule, ProbesRead, ProbesClose, ProbesWarp), which is proved of the
+ * code. It keeps nothing between calls.
  *
  * `answer` gets the numbers that are told besides the one returned. It has at least 36 numbers. If it is shorter, 14 is returned before all
  * else and nothing is touched. Numbers of `answer` that are not named below are kept.
@@ -71,6 +71,22 @@ uint32_t probe_read(const uint8_t *text, size_t text_len, uint32_t *commands, si
  *   rows      how many rows; it has no limit but the room
  */
 uint32_t probe_close(uint32_t *relation, size_t relation_len, uint32_t rows);
+
+/*
+ * Runs a kernel as a warp, by Table 2 of source document 001 (request 2026-11). Returns 0, or a refusal, 17 or 18, before the first step.
+ *   statements   five numbers a row, at most 256 rows: list, kind, x, y, z. List 0 is the kernel; any other body or function is the rows with its number, in order. Kinds: 0 skip;
+ *                1 cell x gets expression y; 2 if expression x is not 0, list y, else list z; 3 while expression x is not 0, list y; 4 break; 5 call of list x; 6 return
+ *   expressions  three numbers a row, at most 256 rows: kind, x, y. Kinds: 0 the number x; 1 cell x; 2 the lane's number; and of the values of rows x and y, which are earlier rows, 3 the sum
+ *                and 4 the difference, both wrapping, and 5 whether the first is less, unsigned, 1 or 0. Numbers that a kind does not use are not looked at, in either table
+ *   lanes        1 to 32; they are numbered from 0
+ *   cells        at least 64 numbers, which the lanes share; less is 17 with place 0. They get the values after the last step taken; untouched by a refusal, and later numbers are kept.
+ *                Where several active lanes write one cell, the highest lane's value stays
+ *   steps        how many steps it may take
+ *   answer       0: the refusal's place, which is the first statement refused, 0 if none; 1: 0; 2: how it ended, 0 refused, 1 finished, 2 the steps are used up, 3 the next step would overfill the
+ *                stack of 256 statements and tokens, tested in this order; 3: 0; 4 and 5: how many steps were taken, low and high word
+ */
+uint32_t probe_warp(const uint32_t *statements, size_t statements_len, const uint32_t *expressions, size_t expressions_len, uint32_t lanes,
+                    uint32_t *cells, size_t cells_len, uint64_t steps, uint32_t *answer, size_t answer_len);
 
 #ifdef __cplusplus
 }

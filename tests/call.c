@@ -79,15 +79,25 @@ void open_call(const char *door)
     lent_now = 0;
 }
 
+/* A room that is lent again in the same call stays the same entry. */
+static void note(struct lent *lent)
+{
+    size_t i = 0;
+    while (i < lent_now && now[i] != lent)
+        i++;
+    now[i] = lent;
+    lent_now += i == lent_now;
+}
+
 static const void *lend_input(struct lent *lent, const void *bytes, size_t length, size_t unit)
 {
-    now[lent_now++] = lent;
+    note(lent);
     return lend(lent, bytes, length, unit, chance(&drawn, 50));
 }
 
 static void *lend_output(struct lent *lent, size_t length, size_t unit)
 {
-    now[lent_now++] = lent;
+    note(lent);
     int at_end = chance(&drawn, 50);
     return lend_room(lent, length, unit, at_end, draw(&drawn));
 }
@@ -127,10 +137,15 @@ static void check_lent(struct lent *lent)
     fail(lent->name, (long)(first / lent->unit), found, expected);
 }
 
+void check_call(void)
+{
+    for (size_t i = 0; i < lent_now; i++)
+        check_lent(now[i]);
+}
+
 void close_call(void)
 {
-    for (size_t i = 0; i < lent_now; i++) {
-        check_lent(now[i]);
+    check_call();
+    for (size_t i = 0; i < lent_now; i++)
         give_back(now[i]);
-    }
 }

@@ -27,7 +27,7 @@ void begin_input(unsigned long long number);
 
 void open_call(const char *door);
 
-/* Each is lent until the call is closed, and either begins or ends at a guard page. What is lent for writing holds junk. */
+/* Each is lent until the call is closed, and either begins or ends at a guard page. What is lent for writing holds junk; such a room may be lent anew in between. */
 const uint32_t *lend_numbers(struct lent *lent, const uint32_t *from, size_t n);
 uint32_t *lend_places(struct lent *lent, size_t n);
 const uint8_t *lend_text(struct lent *lent, const uint8_t *bytes, size_t length);
@@ -35,6 +35,9 @@ uint8_t *lend_report(struct lent *lent, size_t bytes);
 
 /* All that was lent must hold what it must (lent.h), and the bytes beside it what they held. */
 void close_call(void);
+
+/* The same test, and the call stays open: for a door that is called again over the same tables. */
+void check_call(void);
 
 /* On standard error: the input's numbers and the door, as the beginning of a line; how to repeat it, what is lent, and what else the test has to tell, if anything. */
 void tell_where(void);

@@ -71,6 +71,22 @@ static void try_evidence(void)
     memset(huge, 0, sizeof both_ways);
 }
 
+/* Skips in the kernel, and numbers 0 as expressions, would be run. */
+static void try_warps(void)
+{
+    const uint32_t set_63[5] = {0, 1, 63, 0, 0}, seven[3] = {0, 7, 0};
+    expect("2^32 numbers of statements", probe_warp(huge, PAST, none, 0, 1, evidence, 64, 9, answer, ANSWER), 17, 0, 0);
+    expect("2^32 expressions", probe_warp(none, 0, huge, 3 * PAST, 1, evidence, 64, 9, answer, ANSWER), 17, 0, 0);
+    expect("2^32 + 3 numbers of expressions", probe_warp(none, 0, huge, PAST + 3, 1, evidence, 64, 9, answer, ANSWER), 17, 0, 0);
+    expect("a room for cells", probe_warp(set_63, 5, seven, 3, 1, huge, PAST, 9, answer, ANSWER), 0, 0, 1);
+    expect("the cell in it", huge[63] == 7 && huge[62] == 0 && huge[64] == 0, 1, 0, 1);
+    huge[63] = 0;
+    uint32_t got = probe_warp(none, 0, none, 0, 1, evidence, 64, PAST, huge, PAST);
+    memcpy(answer, huge, sizeof answer);
+    expect("an answer room for a warp", got, 0, 0, 1);
+    memset(huge, 0, sizeof answer);
+}
+
 static void try_texts(void)
 {
     static uint8_t report[193];
@@ -115,6 +131,7 @@ int main(void)
     try_tables();
     try_rooms();
     try_evidence();
+    try_warps();
     try_texts();
     try_printed();
     printf("huge: %lu answers, every one as expected\n", answers);

@@ -1,8 +1,8 @@
 /*
- * The four doors of include/probe.h on examples of document 01 and of its later requests, with guard numbers around every room. Everything is called twice, over
- * two fillings of the rooms that differ everywhere, so that a number that was not written cannot pass for one that was. Evidence is held to its words by
- * evidence.c, which is itself tried here on what is evidence and what is none. Ends with a line `probe: N passed`, N the number of calls, or at the first
- * difference with that difference and status 1. tests/run builds and runs it.
+ * The doors of include/probe.h but for that of a warp, which has probe_warp.c, on examples of document 01 and of its later requests, with guard numbers around every room.
+ * Everything is called twice, over two fillings of the rooms that differ everywhere, so that a number that was not written cannot pass for one that was. Evidence is held to its
+ * words by evidence.c, which is itself tried here on what is evidence and what is none. Ends with a line `probe: N passed`, N the number of calls, or at the first difference with
+ * that difference and status 1. tests/run builds and runs it.
  */
 #include <stdio.h>
 #include <stdlib.h>

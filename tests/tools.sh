@@ -58,6 +58,12 @@ build_files() {
     target/staticlib/libprobe.a target/staticlib/libdesk.a
 }
 
+# build_warps PROGRAM: the comparison of the run of a warp with the reference of document 001.
+build_warps() {
+  "${cc[@]}" -std=c99 -pedantic -Wall -Wextra -Werror -O2 -flto -o "$1" tests/warps.c tests/warp.c tests/threads.c tests/kernels.c tests/reference.c tests/call.c tests/lent.c tests/inputs.c \
+    target/staticlib/libprobe.a
+}
+
 # compare_both PROGRAM FOLDER SEED COUNT: two processes side by side, with this seed and the next; one line with the figures of both. At a difference, what they said.
 compare_both() {
   local program=$1 folder=$2 seed=$3 count=$4 first second ended=0
