@@ -1,3 +1,4 @@
--- Read in this order: Filling (the value of a row from those of the rows before it); Lanewise (the lanes for which it is not 0).
+-- Read in this order: Filling (the value of a row from those of the rows before it); Lanewise (the lanes for which it is not 0); Unique (the doors have one answer each).
 pub mod Filling
 pub mod Lanewise
+pub mod Unique
