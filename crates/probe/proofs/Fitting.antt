@@ -104,8 +104,6 @@ rest-in (Accepted m t) n = omega arith
 
 -- ---- the run of a warp
 
-pub warp-counted : (statements expressions : List ℕ) (lanes steps : ℕ) (cells cells′ : List ℕ) (r : Answer) → RunsKernel statements expressions lanes steps cells cells′ r → r .ending ≤ largest
-    → Counted (tell (r .number) (r .place) 0) (r .ending) 0
+pub warp-place : (statements expressions : List ℕ) (lanes steps : ℕ) (cells cells′ : List ℕ) (r : Answer) → RunsKernel statements expressions lanes steps cells cells′ r → r .place ≤ largest
 unfolding mostStatements
-warp-counted statements expressions lanes steps cells cells′ r R h =
-    record { place = omega (arith, place-few statements expressions lanes steps cells cells′ r R); also = omega arith; third = h; fourth = omega arith }
+warp-place statements expressions lanes steps cells cells′ r R = omega (arith, place-few statements expressions lanes steps cells cells′ r R)

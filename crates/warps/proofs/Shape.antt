@@ -3,7 +3,7 @@ use mathlib.Core.Path.{_≡_, refl, _∙_}
 use mathlib.Core.Bool.{Bool, true, false, _&&_, not, cond}
 use mathlib.Core.List.{List, [], _∷_}
 use Prim.Native.Nat.{ℕ, _<_}
-use Rattle.relation.proofs.Truth.{clashing}
+use Rattle.relation.proofs.Truth.{clashing, both}
 use Rattle.warps.specs.Language.{Expr, Stm, skip, assign, branch, while, again, break, invoke, return, Bodies, Mem, test}
 use Rattle.warps.specs.Warp.{TokenType, div, sync, brk, call, DisableState, on, broke, returned, Mask, DisableMask, Item, stm, tok, onto, awaits, isOn, act, WarpStep, skip-w, assign-w, if-w, while-w, again-w, break-w, call-w, return-w, token-w, inact-w}
 use Rattle.warps.specs.Programs.{MayStand, AllMayStand, Confined}
@@ -143,16 +143,9 @@ module _ (looped : ℕ → Bool) where
     shape-next token-w h = h
     shape-next (inact-w s S {k = k} {m = m} {W = W} x) h = shape-drop S (tok k m ∷ W) (h .2)
 
-off : (a b : Bool) → a ≡ false → a && b ≡ false
+-- what is not in a mask is in no part of it
+pub off : (a b : Bool) → a ≡ false → a && b ≡ false
 off a b e = rw e
-
-fst : (a b : Bool) → a && b ≡ true → a ≡ true
-fst true b e = refl
-fst false b e = e
-
-snd : (a b : Bool) → a && b ≡ true → b ≡ true
-snd true b e = e
-snd false b e = clashing e refl
 
 ison : (d : DisableState) → isOn d ≡ true → d ≡ on
 unfolding isOn
@@ -275,13 +268,13 @@ module _ (t : ℕ) where
         → (Θ t ≡ true → Δ t ≡ on) → Θ′ t ≡ true → Δ′ t ≡ on
     able-next (skip-w x) o h = o h
     able-next (assign-w x) o h = o h
-    able-next (if-w x) o h = o (fst _ _ h)
-    able-next (while-w x) o h = o (fst _ _ h)
-    able-next (again-w x) o h = o (fst _ _ h)
+    able-next (if-w x) o h = o (both _ _ h .0)
+    able-next (while-w x) o h = o (both _ _ h .0)
+    able-next (again-w x) o h = o (both _ _ h .0)
     able-next (break-w S x) o h = clashing h refl
     able-next (call-w x) o h = o h
     able-next (return-w S x) o h = clashing h refl
-    able-next (token-w {k = k} {m = m} {Δ = Δ}) o h = ison _ (snd (m t) _ h)
+    able-next (token-w {k = k} {m = m} {Δ = Δ}) o h = ison _ (both (m t) _ h .1)
     able-next (inact-w s S x) o h = o h
 
 module _ (looped : ℕ → Bool) (body : Bodies) (L : Confined body looped) (n : ℕ) where

@@ -6,13 +6,13 @@ use Prim.Native.Nat.{ℕ, _+_, _<_}
 use borrow.Author.Tests.{lt-ltb, le-ltb}
 use lib.Dec.{ltb}
 use lib.ListN.{set}
-use Rattle.relation.proofs.Truth.{clashing}
+use Rattle.relation.proofs.Truth.{clashing, pair}
 use Rattle.warps.specs.Language.{Expr, literal, Stm, skip, assign, branch, while, again, break, invoke, return, Bodies, Mem, eval, test}
 use Rattle.warps.specs.Warp.{TokenType, div, sync, brk, call, DisableState, on, broke, returned, Mask, DisableMask, Item, stm, tok, onto, awaits, isOn, enabled, woken, act, excluding, nobody, disable, updated, WarpStep, skip-w, assign-w, if-w, while-w, again-w, break-w, call-w, return-w, token-w, inact-w}
 use Rattle.warps.specs.Threads.{brk-c, call-c, Piece, does, ctx, ahead, callFree, ThreadStep, skip-t, assign-rd, assign-wr, if-tt, if-ff, while-tt, while-ff, again-tt, again-ff, break-t, call-t, return-t, context-t, ThreadStacks, Interleaved}
 use Rattle.warps.specs.Projection.{running, waiting, modeOf, proj, stacks}
 use Rattle.warps.specs.Programs.{Confined}
-use Rattle.warps.proofs.Shape.{inLoop, called, AtBrk, going, joining, Good, need, Inv}
+use Rattle.warps.proofs.Shape.{off, inLoop, called, AtBrk, going, joining, Good, need, Inv}
 use Rattle.warps.proofs.Sweep.{ThreadSteps, join, sweep}
 
 taken {ℓ} : {A : Type ℓ} {b : Bool} (x y : A) → b ≡ true → cond b x y ≡ x
@@ -21,15 +21,9 @@ taken x y e = rw e
 passed {ℓ} : {A : Type ℓ} {b : Bool} (x y : A) → b ≡ false → cond b x y ≡ y
 passed x y e = rw e
 
-both : (a b : Bool) → a ≡ true → b ≡ true → a && b ≡ true
-both a b e f = rw (e, f)
-
 nor : (a b : Bool) → b ≡ false → a && b ≡ false
 nor true b e = e
 nor false b e = refl
-
-off : (a b : Bool) → a ≡ false → a && b ≡ false
-off a b e = rw e
 
 module _ (t : ℕ) where
   runs-onto : (S : List Stm) (W : List Item) → proj t (onto S W) running ≡ ahead S (proj t W running)
@@ -58,14 +52,14 @@ module _ (t : ℕ) where
     unloop (stm s ∷ W) i h = let r = unloop W i h in (s ∷ r .0, ap (λ (T : List Piece). does s ∷ T) (r .1))
     unloop (tok sync m ∷ W) i h = to (passed _ _ (nor (m t) false refl)) (unloop W i (h .1))
     unloop (tok div m ∷ W) i h = to (passed _ _ (nor (m t) false refl)) (unloop-join W i (h .1))
-    unloop (tok brk m ∷ W) i h = to (taken _ _ (both (m t) true (h .0) refl)) ([], refl)
+    unloop (tok brk m ∷ W) i h = to (taken _ _ (pair (m t) true (h .0) refl)) ([], refl)
     unloop (tok call m ∷ W) i h = clashing i refl
 
     unloop-join : (W : List Item) → inLoop W ≡ true → Good t W joining → Unloop (proj t W (waiting on)) (proj t W (waiting broke))
     unloop-join [] i h = absurd h
     unloop-join (stm s ∷ W) i h = unloop-join W i h
     unloop-join (tok sync m ∷ W) i h =
-        to (passed _ _ (nor (m t) false refl)) (subst (λ (T : List Piece). Unloop T (proj t W (waiting broke))) (sym (taken _ _ (both (m t) true (h .0) refl))) (unloop W i (h .1)))
+        to (passed _ _ (nor (m t) false refl)) (subst (λ (T : List Piece). Unloop T (proj t W (waiting broke))) (sym (taken _ _ (pair (m t) true (h .0) refl))) (unloop W i (h .1)))
     unloop-join (tok div m ∷ W) i h = absurd h
     unloop-join (tok brk m ∷ W) i h = absurd h
     unloop-join (tok call m ∷ W) i h = absurd h
@@ -87,13 +81,13 @@ module _ (t : ℕ) where
     unframe (tok sync m ∷ W) i h = to′ (passed _ _ (nor (m t) false refl)) (unframe W i (h .1))
     unframe (tok div m ∷ W) i h = to′ (passed _ _ (nor (m t) false refl)) (unframe-join W i (h .1))
     unframe (tok brk m ∷ W) i h = let r = unframe W i (h .1) in to′ (passed _ _ (nor (m t) false refl)) (ctx brk-c ∷ r .0, r .1, ap (λ (T : List Piece). ctx brk-c ∷ T) (r .2))
-    unframe (tok call m ∷ W) i h = to′ (taken _ _ (both (m t) true (h .0) refl)) ([], refl, refl)
+    unframe (tok call m ∷ W) i h = to′ (taken _ _ (pair (m t) true (h .0) refl)) ([], refl, refl)
 
     unframe-join : (W : List Item) → called W ≡ true → Good t W joining → Unframe (proj t W (waiting on)) (proj t W (waiting returned))
     unframe-join [] i h = absurd h
     unframe-join (stm s ∷ W) i h = unframe-join W i h
     unframe-join (tok sync m ∷ W) i h =
-        to′ (passed _ _ (nor (m t) false refl)) (subst (λ (T : List Piece). Unframe T (proj t W (waiting returned))) (sym (taken _ _ (both (m t) true (h .0) refl))) (unframe W i (h .1)))
+        to′ (passed _ _ (nor (m t) false refl)) (subst (λ (T : List Piece). Unframe T (proj t W (waiting returned))) (sym (taken _ _ (pair (m t) true (h .0) refl))) (unframe W i (h .1)))
     unframe-join (tok div m ∷ W) i h = absurd h
     unframe-join (tok brk m ∷ W) i h = absurd h
     unframe-join (tok call m ∷ W) i h = absurd h
@@ -115,10 +109,10 @@ module _ (t : ℕ) where
     unfolding proj awaits
     if-lane W Θ e a b d μ true true ex ev o =
         goes μ (if-tt ev)
-        (sym (waits-onto (body b) _ d ∙ taken _ _ (both _ (awaits d div) (both _ _ ex ev) (rw (o refl))) ∙ runs-onto (body a) (tok sync Θ ∷ W)))
+        (sym (waits-onto (body b) _ d ∙ taken _ _ (pair _ (awaits d div) (pair _ _ ex ev) (rw (o refl))) ∙ runs-onto (body a) (tok sync Θ ∷ W)))
     if-lane W Θ e a b d μ true false ex ev o =
         goes μ (if-ff ev)
-        (sym (runs-onto (body b) (tok div (act Θ e μ) ∷ onto (body a) (tok sync Θ ∷ W)) ∙ ap (ahead (body b)) (waits-onto (body a) (tok sync Θ ∷ W) on ∙ taken _ _ (both _ true ex refl))))
+        (sym (runs-onto (body b) (tok div (act Θ e μ) ∷ onto (body a) (tok sync Θ ∷ W)) ∙ ap (ahead (body b)) (waits-onto (body a) (tok sync Θ ∷ W) on ∙ taken _ _ (pair _ true ex refl))))
     if-lane W Θ e a b d μ false v ex ev o =
         still μ (sym (waits-onto (body b) (tok div (act Θ e μ) ∷ onto (body a) (tok sync Θ ∷ W)) d ∙ passed _ _ (off _ (awaits d div) (off _ _ ex)) ∙ waits-onto (body a) (tok sync Θ ∷ W) d ∙ passed _ _ (off _ (awaits d sync) ex)))
 
@@ -127,7 +121,7 @@ module _ (t : ℕ) where
     unfolding proj awaits
     while-lane W Θ e k d μ true true ex ev o = goes μ (while-tt ev) (sym (runs-onto (body k) (stm (again e k) ∷ tok brk Θ ∷ W)))
     while-lane W Θ e k d μ true false ex ev o =
-        goes μ (while-ff ev) (sym (waits-onto (body k) (stm (again e k) ∷ tok brk Θ ∷ W) d ∙ taken _ _ (both _ (awaits d brk) ex (rw (o refl)))))
+        goes μ (while-ff ev) (sym (waits-onto (body k) (stm (again e k) ∷ tok brk Θ ∷ W) d ∙ taken _ _ (pair _ (awaits d brk) ex (rw (o refl)))))
     while-lane W Θ e k d μ false v ex ev o = still μ (sym (waits-onto (body k) (stm (again e k) ∷ tok brk Θ ∷ W) d ∙ passed _ _ (off _ (awaits d brk) ex)))
 
     -- the lane leaves the loop in two steps: the test, then the context
@@ -137,7 +131,7 @@ module _ (t : ℕ) where
     leaves (stm s ∷ W) d μ o a h = absurd a
     leaves (tok sync m ∷ W) d μ o a h = absurd a
     leaves (tok div m ∷ W) d μ o a h = absurd a
-    leaves (tok brk m ∷ W) d μ o a h = goes μ context-t (sym (taken _ _ (both _ (awaits d brk) (h .0) (rw o))))
+    leaves (tok brk m ∷ W) d μ o a h = goes μ context-t (sym (taken _ _ (pair _ (awaits d brk) (h .0) (rw o))))
     leaves (tok call m ∷ W) d μ o a h = absurd a
 
     again-lane : (W : List Item) (e : Expr) (k : ℕ) (d : DisableState) (μ : Mem) (x v : Bool) → test e t μ ≡ v → (x ≡ true → d ≡ on) → AtBrk W → Good t W (need x d)
@@ -193,10 +187,10 @@ module _ (t : ℕ) where
     meets : (W : List Item) (k : TokenType) (m : Mask) (d : DisableState) (μ : Mem) → d ≡ on → Good t (tok k m ∷ W) going
         → Goes (proj t (tok k m ∷ W) running) μ (cond (m t && awaits d k) (proj t W running) (proj t W (waiting d)))
     unfolding proj awaits
-    meets W sync m d μ o h = still μ (sym (taken _ _ (both _ (awaits d sync) (h .0) (rw o))))
+    meets W sync m d μ o h = still μ (sym (taken _ _ (pair _ (awaits d sync) (h .0) (rw o))))
     meets W div m d μ o h = still μ (ap (λ (d : DisableState). proj t W (waiting d)) (sym o) ∙ sym (passed _ _ (off _ (awaits d div) (h .0))))
-    meets W brk m d μ o h = goes μ context-t (sym (taken _ _ (both _ (awaits d brk) (h .0) (rw o))))
-    meets W call m d μ o h = goes μ context-t (sym (taken _ _ (both _ (awaits d call) (h .0) (rw o))))
+    meets W brk m d μ o h = goes μ context-t (sym (taken _ _ (pair _ (awaits d brk) (h .0) (rw o))))
+    meets W call m d μ o h = goes μ context-t (sym (taken _ _ (pair _ (awaits d call) (h .0) (rw o))))
 
     token-lane : (W : List Item) (k : TokenType) (m : Mask) (d : DisableState) (μ : Mem) (x : Bool) → (x ≡ true → d ≡ on) → Good t (tok k m ∷ W) (need x d)
         → Goes (proj t (tok k m ∷ W) (modeOf x d)) μ (cond (m t && awaits d k) (proj t W running) (proj t W (waiting d)))

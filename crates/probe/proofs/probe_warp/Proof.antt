@@ -1,7 +1,7 @@
 use native.Mathlib.Omega.{arith}
 use lib.ListN.{length-set}
 use Rattle.probe.specs.Numbers.{answerRoom}
-use Rattle.probe.proofs.Fitting.{warp-counted}
+use Rattle.probe.proofs.Fitting.{warp-place}
 use Rattle.probe.proofs.Telling.{warp-short, warp-told}
 use borrow.Author.Needs.{needs}
 use Rattle.probe.proofs.probe_warp.Statement.{statement}
@@ -18,7 +18,8 @@ cast-put-told : tie.Need-cast-put-told
 cast-put-told c = search needs
 
 put-told-requires : tie.Need-put-told-requires
-put-told-requires c κs = (omega (arith, c .before .before .before .before .before .before .if1 .left), warp-counted _ _ _ _ _ _ _ (c .before .before .before .before .run-kernel .ensures) (omega arith))
+put-told-requires c κs =
+    (omega (arith, c .before .before .before .before .before .before .if1 .left), record { place = omega (arith, warp-place _ _ _ _ _ _ _ (c .before .before .before .before .run-kernel .ensures)); also = omega arith; third = omega arith; fourth = omega arith })
 
 cast-answer : tie.Need-cast-answer
 cast-answer c = search needs
