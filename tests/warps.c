@@ -78,9 +78,10 @@ static uint32_t *lend_cells(size_t n, const uint32_t *from)
     return room;
 }
 
-static size_t answer_room(void)
+/* Too short once in so many calls. */
+static size_t answer_room(uint32_t seldom)
 {
-    if (below(&drawn, 200) == 0)
+    if (below(&drawn, seldom) == 0)
         return chance(&drawn, 50) ? ANSWER - 1 : below(&drawn, ANSWER);
     return chance(&drawn, 50) ? ANSWER : ANSWER + below(&drawn, 5);
 }
@@ -101,7 +102,7 @@ static void tell_run(void)
 /* Calls the door with so many steps, over the tables that are lent already. */
 static void call_door(const struct kernel *kernel, uint64_t steps, struct outcome it)
 {
-    size_t room = answer_room();
+    size_t room = answer_room(it.number == 0 ? 200 : 10);
     uint32_t *c = lend_cells(kernel->cells_len, drawn_kernel.cells), *a = lend_places(&answer, room);
     steps_now = steps;
     lanes_now = kernel->lanes;
