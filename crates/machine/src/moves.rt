@@ -60,7 +60,8 @@ fn move_on(
     cells: &mut [u32],
 ) -> Stand
     requires { ⌜ Roomy (now code) (now stack) (stand .height) ⌝ }
-    ensures { λ r. ⌜ warpOf (now (stack .exit)) r (now (cells .exit)) ≡ next (now (code .entry)) (now (expressions .entry)) (warpOf (now (stack .entry)) stand (now (cells .entry))) ⌝ }
+    ensures { λ r. ⌜ warpOf (now (stack .exit)) r (now (cells .exit))
+        ≡ next (now (code .entry)) (now (expressions .entry)) (warpOf (now (stack .entry)) stand (now (cells .entry))) ⌝ }
 {
     let height = stand.height;
     let lanes = stand.lanes;
@@ -112,7 +113,8 @@ pub fn step(
     stack: &mut [u64],
     cells: &mut [u32],
 ) -> Stand
-    ensures { λ r. ⌜ Steps (now (code .entry)) (now (expressions .entry)) stand (now (stack .entry)) (now (cells .entry)) (now (stack .exit)) (now (cells .exit)) r ⌝ }
+    ensures { λ r. ⌜ Steps (now (code .entry)) (now (expressions .entry)) stand (now (stack .entry)) (now (cells .entry))
+        (now (stack .exit)) (now (cells .exit)) r ⌝ }
 {
     if fits(code, stack, stand.height) {
         return move_on(code, expressions, stand, stack, cells);

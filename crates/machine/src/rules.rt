@@ -25,7 +25,8 @@ use values::value;
 
 // (assign): cell x gets the highest active lane's value of expression y.
 fn assign(expressions: &[u32], x: u32, y: u32, active: u32, cells: &mut [u32])
-    ensures { λ r. ⌜ now (cells .exit) ≡ set (now (cells .entry)) x (eval (expression (now (expressions .entry)) y) (highestOf 32 active) (now (cells .entry))) ⌝ }
+    ensures { λ r. ⌜ now (cells .exit)
+        ≡ set (now (cells .entry)) x (eval (expression (now (expressions .entry)) y) (highestOf 32 active) (now (cells .entry))) ⌝ }
 {
     let v = value(expressions, y as usize, highest(active), cells);
     if (x as usize) < cells.len() {
@@ -44,7 +45,8 @@ fn branch(
     height: usize,
 ) -> usize
     requires { ⌜ Roomy (now code) (now stack) height ⌝ }
-    ensures { λ r. ⌜ held (now (stack .exit)) r ≡ over (now (code .entry)) z (token divToken acting ∷ over (now (code .entry)) y (token syncToken active ∷ held (now (stack .entry)) height)) ⌝ }
+    ensures { λ r. ⌜ held (now (stack .exit)) r
+        ≡ over (now (code .entry)) z (token divToken acting ∷ over (now (code .entry)) y (token syncToken active ∷ held (now (stack .entry)) height)) ⌝ }
 {
     let joined = put_token(stack, height, Token::SYNC, active);
     let first = push_list(stack, joined, code, y);
@@ -89,7 +91,8 @@ pub(crate) fn obey_row(
     cells: &mut [u32],
 ) -> Stand
     requires { ⌜ Roomy (now code) (now stack) height × (i < 256) ⌝ }
-    ensures { λ r. ⌜ warpOf (now (stack .exit)) r (now (cells .exit)) ≡ obey (now (code .entry)) (now (expressions .entry)) i (held (now (stack .entry)) height) lanes (now (cells .entry)) ⌝ }
+    ensures { λ r. ⌜ warpOf (now (stack .exit)) r (now (cells .exit))
+        ≡ obey (now (code .entry)) (now (expressions .entry)) i (held (now (stack .entry)) height) lanes (now (cells .entry)) ⌝ }
 {
     let kind = at(code, 5 * i + 1);
     let x = at(code, 5 * i + 2);
@@ -160,7 +163,11 @@ pub(crate) fn repeat(
     cells: &[u32],
 ) -> Stand
     requires { ⌜ Roomy (now code) (now stack) height × (i < 256) ⌝ }
-    ensures { λ r. ⌜ warpOf (now (stack .exit)) r (now (cells .entry)) ≡ record { stack = over (now (code .entry)) (yOf (now (code .entry)) i) (held (now (stack .entry)) height); lanes = onlyActive lanes (actOf (now (code .entry)) (now (expressions .entry)) lanes (now (cells .entry)) (xOf (now (code .entry)) i)); cells = now (cells .entry) } ⌝ }
+    ensures { λ r. ⌜ warpOf (now (stack .exit)) r (now (cells .entry)) ≡ record {
+      stack = over (now (code .entry)) (yOf (now (code .entry)) i) (held (now (stack .entry)) height);
+      lanes = onlyActive lanes (actOf (now (code .entry)) (now (expressions .entry)) lanes (now (cells .entry)) (xOf (now (code .entry)) i));
+      cells = now (cells .entry);
+    } ⌝ }
 {
     let acting = acting_lanes(
         expressions,
