@@ -11,13 +11,14 @@ use borrow.Author.Tests.{eq-eqb, ne-eqb, lt-ltb, le-ltb}
 use lib.Dec.{eqb}
 use lib.ListN.{getD, length, set, length-set}
 use lib.Seq.{getD-set-same, getD-set-other}
-use Rattle.warps.specs.Language.{Expr, Mem, eval}
+use Rattle.warps.specs.Language.{Mem, eval}
+use Rattle.values.specs.Expressions.{expression}
 use Rattle.kernels.specs.Rows.{listOf}
 use Rattle.machine.specs.Entries.{Entry, row, again, token, againFrom, tokensFrom, tokenNumber, entryOf, held, fromToken, pile}
 
 -- the highest lane's value is stored
-pub stored : (μ : Mem) (c t v : ℕ) (x : Expr) {h : ℕ} → t ≡ h → v ≡ eval x t μ → set μ c v ≡ set μ c (eval x h μ)
-stored μ c t v x p q = ap (set μ c) (q ∙ ap (λ (t : ℕ). eval x t μ) p)
+pub stored : (μ : Mem) (e : List ℕ) (c c′ y y′ t t′ v : ℕ) → c ≡ c′ → y ≡ y′ → t ≡ t′ → v ≡ eval (expression e y) t μ → set μ c v ≡ set μ c′ (eval (expression e y′) t′ μ)
+stored μ e c c′ y y′ t t′ v p q r w = ap₂ (set μ) p (w ∙ ap₂ (λ (y t : ℕ). eval (expression e y) t μ) q r)
 
 pub held-long : (a : List ℕ) (n : ℕ) → length (held a n) ≡ n
 unfolding held

@@ -25,6 +25,23 @@ module _ (s e : List ℕ) where
   abbrev pub actOf : Lanes → Mem → (x : ℕ) → ℕ
   actOf L μ x = acting (L .active) (expression e x) μ 32
 
+  -- (if), of row i over W
+  abbrev pub parted : (i : ℕ) → List Entry → Lanes → Mem → Warp
+  parted i W L μ =
+      record {
+        stack = over s (zOf s i) (token divToken (actOf L μ (xOf s i)) ∷ over s (yOf s i) (token syncToken (L .active) ∷ W));
+        lanes = leaving L (actOf L μ (xOf s i));
+        cells = μ;
+      }
+
+  -- (while)
+  abbrev pub looping : (i : ℕ) → List Entry → Lanes → Mem → Warp
+  looping i W L μ = record { stack = over s (yOf s i) (again i ∷ token brkToken (L .active) ∷ W); lanes = onlyActive L (actOf L μ (xOf s i)); cells = μ }
+
+  -- the underlined (while), which lies on W
+  abbrev pub repeating : (i : ℕ) → List Entry → Lanes → Mem → Warp
+  repeating i W L μ = record { stack = over s (yOf s i) W; lanes = onlyActive L (actOf L μ (xOf s i)); cells = μ }
+
   -- the statement of row i, with some lane active, over W
   unfoldable pub obey : (i : ℕ) → List Entry → Lanes → Mem → Warp
   obey i W L μ =
@@ -32,16 +49,8 @@ module _ (s e : List ℕ) where
       cond (eqb (kindOf s i) skipKind) (record { stack = W; lanes = L; cells = μ })
       -- (assign): the highest active lane's value stays
       (cond (eqb (kindOf s i) assignKind) (record { stack = W; lanes = L; cells = set μ (xOf s i) (eval (expression e (yOf s i)) (highestOf 32 (L .active)) μ) })
-      -- (if)
-      (cond (eqb (kindOf s i) ifKind)
-      (record {
-        stack = over s (zOf s i) (token divToken (actOf L μ (xOf s i)) ∷ over s (yOf s i) (token syncToken (L .active) ∷ W));
-        lanes = leaving L (actOf L μ (xOf s i));
-        cells = μ;
-      })
-      -- (while)
-      (cond (eqb (kindOf s i) whileKind)
-      (record { stack = over s (yOf s i) (again i ∷ token brkToken (L .active) ∷ W); lanes = onlyActive L (actOf L μ (xOf s i)); cells = μ })
+      (cond (eqb (kindOf s i) ifKind) (parted i W L μ)
+      (cond (eqb (kindOf s i) whileKind) (looping i W L μ)
       -- (break)
       (cond (eqb (kindOf s i) breakKind) (record { stack = fromToken W; lanes = brokenBy L; cells = μ })
       -- (call)
@@ -57,9 +66,7 @@ module _ (s e : List ℕ) where
   -- (inact), or the statement's rule
   advance (row i ∷ W) L μ = cond (eqb (L .active) 0) (record { stack = fromToken W; lanes = L; cells = μ }) (obey i W L μ)
   -- (inact), or the underlined (while)
-  advance (again i ∷ W) L μ =
-      cond (eqb (L .active) 0) (record { stack = fromToken W; lanes = L; cells = μ })
-      (record { stack = over s (yOf s i) (again i ∷ W); lanes = onlyActive L (actOf L μ (xOf s i)); cells = μ })
+  advance (again i ∷ W) L μ = cond (eqb (L .active) 0) (record { stack = fromToken W; lanes = L; cells = μ }) (repeating i (again i ∷ W) L μ)
 
   abbrev pub next : Warp → Warp
   next w = advance (w .stack) (w .lanes) (w .cells)

@@ -72,37 +72,22 @@ fn move_on(
     let entry = stack[under];
     if entry >= Stack::TOKENS {
         let rest = entry - Stack::TOKENS;
+        let lanes = lanes.wake((rest % 4) as u32, (rest / 4 % 4294967296) as u32);
         return Stand {
             height: under,
-            lanes: lanes.wake((rest % 4) as u32, (rest / 4 % 4294967296) as u32),
-        };
-    }
-    if lanes.active == 0 {
-        return Stand {
-            height: drop_rows(stack, under),
             lanes: lanes,
         };
     }
-    if entry < Stack::AGAIN {
-        return obey_row(
-            code,
-            expressions,
-            entry as usize,
-            lanes,
-            stack,
-            under,
-            cells,
-        );
+    if lanes.active == 0 {
+        let height = drop_rows(stack, under);
+        return Stand { height, lanes };
     }
-    repeat(
-        code,
-        expressions,
-        (entry - Stack::AGAIN) as usize,
-        lanes,
-        stack,
-        height,
-        cells,
-    )
+    if entry < Stack::AGAIN {
+        let i = entry as usize;
+        return obey_row(code, expressions, i, lanes, stack, under, cells);
+    }
+    let i = (entry - Stack::AGAIN) as usize;
+    repeat(code, expressions, i, lanes, stack, height, cells)
 }
 
 // One step of a warp, in place. What cannot be stepped stays as it is.

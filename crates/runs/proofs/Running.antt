@@ -22,6 +22,7 @@ use Rattle.machine.specs.Entries.{mostEntries, stackRoom, Entry, row, again, to
 use Rattle.machine.specs.Step.{Warp, obey, advance, next, warpOf, Starts, Steps}
 use Rattle.machine.proofs.Held.{held-long}
 use Rattle.machine.proofs.Doors.{works}
+use Rattle.runs.specs.declared.Answer.{Answer}
 use Rattle.runs.specs.Run.{finished, usedUp, wouldOverfill, isOver, overfills, run, runFrom, Told, refused, ran, toldOf}
 
 -- ---- a step that makes the stack higher writes no cell
@@ -48,6 +49,10 @@ module _ (s e : List ℕ) where
   higher-cells (row i ∷ W) L μ h =
       by-cases (ℕ-discrete (L .active) 0) (λ (z : L .active ≡ 0). rw (eq-eqb (L .active) 0 z))
       (λ (z : L .active ≢ 0). rw (ne-eqb (L .active) 0 z) (obey-cells i W L μ (let l : suc (length W) < length (obey s e i W L μ .stack) = rw (ne-eqb (L .active) 0 z) at h in omega arith)))
+
+-- what is told by `ended`
+pub told-by : {X : Told} {ν : Mem} {a b : Answer} → a ≡ b → _≡_ {A = Told} (record { answer = b; cells = ν }) X → _≡_ {A = Told} (record { answer = a; cells = ν }) X
+told-by {ν = ν} p q = ap (λ (a : Answer). record { answer = a; cells = ν }) p ∙ q
 
 -- ---- the loop's invariant: X is what the whole run tells
 pub record Going (s e : List ℕ) (X : Told) (K steps : ℕ) (a : List ℕ) (st : Stand) (μ : Mem) (j : ℕ) : Type 0 where

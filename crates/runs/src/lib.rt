@@ -29,6 +29,18 @@ pub struct Answer {
     pub taken: u64,
 }
 
+// How a run ended.
+fn ended(ending: u32, taken: u64) -> Answer
+    ensures { λ r. ⌜ r ≡ record { number = 0; place = 0; ending = ending; taken = taken } ⌝ }
+{
+    Answer {
+        number: 0,
+        place: 0,
+        ending: ending,
+        taken: taken,
+    }
+}
+
 // A run from the start. A step that would overfill is made, told, and leaves the cells as they were.
 fn run_from(code: &[u32], expressions: &[u32], lanes: u32, cells: &mut [u32], steps: u64) -> Answer
     requires { ⌜ statements (now code) ≤ mostStatements ⌝ }
@@ -39,38 +51,18 @@ fn run_from(code: &[u32], expressions: &[u32], lanes: u32, cells: &mut [u32], st
     let mut taken = 0u64;
     while stand.height > 0 {
         if taken == steps {
-            return Answer {
-                number: 0,
-                place: 0,
-                ending: Ending::USED_UP,
-                taken: taken,
-            };
+            return ended(Ending::USED_UP, taken);
         }
         if Stack::ENTRIES < stand.height {
-            return Answer {
-                number: 0,
-                place: 0,
-                ending: Ending::WOULD_OVERFILL,
-                taken: taken,
-            };
+            return ended(Ending::WOULD_OVERFILL, taken);
         }
         stand = step(code, expressions, stand, &mut stack, cells);
         if stand.height > Stack::ENTRIES {
-            return Answer {
-                number: 0,
-                place: 0,
-                ending: Ending::WOULD_OVERFILL,
-                taken: taken,
-            };
+            return ended(Ending::WOULD_OVERFILL, taken);
         }
         taken += 1;
     }
-    Answer {
-        number: 0,
-        place: 0,
-        ending: Ending::FINISHED,
-        taken: taken,
-    }
+    ended(Ending::FINISHED, taken)
 }
 
 // Refusals 17 and 18, or the run. Cells past the 64th are kept, and a refusal keeps them all.

@@ -1,4 +1,4 @@
-use Rattle.machine.proofs.Obeying.{by-repeat}
+use Rattle.machine.proofs.Obeying.{by-repeating}
 use borrow.Author.Needs.{needs}
 use Rattle.machine.proofs.rules.repeat.Statement.{statement}
 use Rattle.machine.proofs.rules.repeat.Tie as tie
@@ -12,11 +12,8 @@ add-at c = search needs
 at-requires : tie.Need-at-requires
 at-requires c κs = search needs
 
-cast-acting-lanes : tie.Need-cast-acting-lanes
-cast-acting-lanes c = search needs
-
-acting-lanes-requires : tie.Need-acting-lanes-requires
-acting-lanes-requires c κs = search needs
+cast-x : tie.Need-cast-x
+cast-x c = search needs
 
 mul-at-2 : tie.Need-mul-at-2
 mul-at-2 c = search needs
@@ -26,6 +23,9 @@ add-at-2 c = search needs
 
 at-requires-2 : tie.Need-at-requires-2
 at-requires-2 c κs = search needs
+
+acting-lanes-requires : tie.Need-acting-lanes-requires
+acting-lanes-requires c κs = search needs
 
 push-list-requires : tie.Need-push-list-requires
 push-list-requires c κs = search needs
@@ -37,7 +37,7 @@ same-length : tie.Need-same-length
 same-length c = search needs
 
 returns : tie.Need-returns
-returns c = by-repeat _ _ _ _ _ _ _ _ _ _ _ _ (c .before .before .before .before .before .before .before .at .ensures) (c .before .before .before .before .at2 .ensures) (c .before .before .before .before .before .before .acting-lanes .ensures) (c .before .before .before .push-list .ensures .0) (c .only .ensures)
+returns c = by-repeating _ _ _ _ _ (c .before .before .before .before .before .before .before .at .ensures) (c .before .before .before .before .before .before .at2 .ensures) _ _ _ _ (c .before .before .before .before .before .acting-lanes .ensures) _ _ (c .before .before .before .push-list .ensures .0) (c .only .ensures)
 
 pub repeat-spec : {M : Type 1} → statement M
 repeat-spec =
@@ -46,11 +46,11 @@ repeat-spec =
     mul-at
     add-at
     at-requires
-    cast-acting-lanes
-    acting-lanes-requires
+    cast-x
     mul-at-2
     add-at-2
     at-requires-2
+    acting-lanes-requires
     push-list-requires
     only-requires
     same-length
