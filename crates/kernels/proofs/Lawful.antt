@@ -11,20 +11,13 @@ use lib.ListN.{length, List·getD-eq-default}
 use borrow.Author.Tests.{leb-false, eqb-true, eqb-false, not-false, ne-eqb}
 use Rattle.relation.proofs.Truth.{clashing, both, either, neither}
 use Rattle.tables.proofs.Lowest.{lowest-miss}
-use Rattle.kernels.specs.Limits.{cellCount}
-use Rattle.kernels.specs.Rows.{statements, kindOf, xOf, yOf, zOf, assignKind, ifKind, whileKind, breakKind, callKind, expressions}
-use Rattle.kernels.specs.Refusals.{hasBody, uses, usesBesides, hasOwner, missing, usedElsewhere, insideItself, inWhile, badBody, badAssignment, badIf, badWhile, badCall, badStatement, strayBreak}
+use Rattle.kernels.specs.Rows.{statements, kindOf, xOf, yOf, zOf, ifKind, whileKind, breakKind, callKind, expressions}
+use Rattle.kernels.specs.Refusals.{hasBody, uses, usesBesides, hasOwner, missing, usedElsewhere, insideItself, inWhile, badBody, badIf, badWhile, badCall, badStatement, strayBreak}
 use Rattle.kernels.proofs.Passed.{Passed}
 
 -- ---- a good statement, by its kind
 
 module _ (s : List ℕ) (count i : ℕ) (g : badStatement s count i ≡ false) where
-  pub good-assignment : kindOf s i ≡ assignKind → (xOf s i < cellCount) × (yOf s i < count)
-  unfolding badStatement badAssignment
-  good-assignment k =
-      let (x, y) = neither (leb cellCount (xOf s i)) (leb count (yOf s i)) (rw k at g) in
-      (leb-false _ _ x, leb-false _ _ y)
-
   good-if-tests : kindOf s i ≡ ifKind → badIf s count i (xOf s i) (yOf s i) (zOf s i) ≡ false
   unfolding badStatement
   good-if-tests k = rw k at g
@@ -121,12 +114,6 @@ module _ {s e : List ℕ} {lanes : ℕ} (P : Passed s e lanes) where
   -- the kernel is no row's arm or body
   pub kernel-free : (i : ℕ) → hasBody s 0 i ≡ true → ⊥
   kernel-free i h = facts 0 i h .0 refl
-
-  -- a called list is no row's arm or body
-  pub called-free : (i j : ℕ) → i < statements s → kindOf s i ≡ callKind → hasBody s (xOf s i) j ≡ true → ⊥
-  called-free i j l k h =
-      let (_, free) = good-call s (expressions e) i (P .each-statement i l) k in
-      clashing h (lowest-miss (hasBody s (xOf s i)) (statements s) free j (body-within (xOf s i) j h))
 
   -- a break lies in a loop of its own function
   pub break-in-while : (i : ℕ) → i < statements s → kindOf s i ≡ breakKind → inWhile s i ≡ true

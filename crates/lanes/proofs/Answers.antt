@@ -27,15 +27,15 @@ module _ (L : Lanes) (k m : ℕ) where
   at-call l n = rw (ne-eqb k 2 n, lt-ltb 2 k (omega arith))
 
 module _ (m t : ℕ) (E : highestOf 32 m ≡ highestOf t m) (h : 0 < t) where
-  highest-one : highestOf t m ≡ cond (eqb (m / 2 ^ (t - 1) % 2) 1) (t - 1) (highestOf (t - 1) m)
+  highest-by : highestOf t m ≡ cond (eqb (m / 2 ^ (t - 1) % 2) 1) (t - 1) (highestOf (t - 1) m)
   unfolding highestOf bitOf
-  highest-one = let e : t ≡ suc (t - 1) = omega arith in subst (λ (k : ℕ). highestOf k m ≡ cond (eqb (m / 2 ^ (t - 1) % 2) 1) (t - 1) (highestOf (t - 1) m)) (sym e) refl
+  highest-by = let e : t ≡ suc (t - 1) = omega arith in subst (λ (k : ℕ). highestOf k m ≡ cond (eqb (m / 2 ^ (t - 1) % 2) 1) (t - 1) (highestOf (t - 1) m)) (sym e) refl
 
   pub highest-here : m / 2 ^ (t - 1) % 2 ≡ 1 → t - 1 ≡ highestOf 32 m
-  highest-here p = sym (E ∙ highest-one ∙ rw (eq-eqb _ 1 p))
+  highest-here p = sym (E ∙ highest-by ∙ rw (eq-eqb _ 1 p))
 
   pub highest-lower : m / 2 ^ (t - 1) % 2 ≢ 1 → highestOf 32 m ≡ highestOf (t - 1) m
-  highest-lower p = E ∙ highest-one ∙ rw (ne-eqb _ 1 p)
+  highest-lower p = E ∙ highest-by ∙ rw (ne-eqb _ 1 p)
 
 pub highest-none : (m t : ℕ) → highestOf 32 m ≡ highestOf t m → t ≤ 0 → 0 ≡ highestOf 32 m
 unfolding highestOf

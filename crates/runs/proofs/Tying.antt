@@ -16,7 +16,7 @@ use Rattle.warps.specs.Warp.{div, call, on, Mask, DisableMask, Item, stm, tok, 
 use Rattle.warps.specs.Lists.{rowsFrom}
 use Rattle.warps.proofs.Proceed.{any-some, unwind, execute, proceed}
 use Rattle.warps.proofs.Theorems.{highest-stays}
-use Rattle.lanes.specs.Words.{stateOf, except, wokenBy, brokenBy, returnedBy, leaving, onlyActive, highestOf, allOf}
+use Rattle.lanes.specs.Words.{syncToken, divToken, brkToken, callToken, stateOf, except, wokenBy, brokenBy, returnedBy, leaving, onlyActive, highestOf, allOf}
 use Rattle.lanes.specs.declared.Lanes.{Lanes}
 use Rattle.lanes.proofs.Bits.{except-bit, zero-bit, Below, below-except, any-zero, any-word, highest-above, highest-in, all-bit}
 use Rattle.lanes.proofs.Words.{Apart, woken-state, woken-active, broken-state, returned-state, apart-woken, apart-broken, apart-returned, apart-fewer}
@@ -94,19 +94,19 @@ module _ (s e : List ℕ) where
 
       branches : (x y z : ℕ)
           → Obeys (branch (expression e x) y z)
-          (record { stack = over s z (token 1 (actOf s e L μ x) ∷ over s y (token 0 (L .active) ∷ W)); lanes = leaving L (actOf s e L μ x); cells = μ })
+          (record { stack = over s z (token divToken (actOf s e L μ x) ∷ over s y (token syncToken (L .active) ∷ W)); lanes = leaving L (actOf s e L μ x); cells = μ })
       unfolding execute items
       branches x y z =
           same
-          (items-over z (token 1 (actOf s e L μ x) ∷ over s y (token 0 (L .active) ∷ W))
-          ∙ ap (onto (bodiesOf s e z)) (ap₂ (λ (m : Mask) (R : List Item). tok div m ∷ R) (fun-ext (acted x)) (items-over y (token 0 (L .active) ∷ W))))
+          (items-over z (token divToken (actOf s e L μ x) ∷ over s y (token syncToken (L .active) ∷ W))
+          ∙ ap (onto (bodiesOf s e z)) (ap₂ (λ (m : Mask) (R : List Item). tok div m ∷ R) (fun-ext (acted x)) (items-over y (token syncToken (L .active) ∷ W))))
           (λ t. except-bit (L .active) (actOf s e L μ x) t ∙ ap (λ (b : Bool). bitOf (L .active) t && not b) (acted x t)) (λ t. refl) refl
 
       loops : (i : ℕ)
           → Obeys (while (expression e (xOf s i)) (yOf s i))
-          (record { stack = over s (yOf s i) (entries.again i ∷ token 2 (L .active) ∷ W); lanes = onlyActive L (actOf s e L μ (xOf s i)); cells = μ })
+          (record { stack = over s (yOf s i) (entries.again i ∷ token brkToken (L .active) ∷ W); lanes = onlyActive L (actOf s e L μ (xOf s i)); cells = μ })
       unfolding execute items
-      loops i = same (items-over (yOf s i) (entries.again i ∷ token 2 (L .active) ∷ W)) (acted (xOf s i)) (λ t. refl) refl
+      loops i = same (items-over (yOf s i) (entries.again i ∷ token brkToken (L .active) ∷ W)) (acted (xOf s i)) (λ t. refl) refl
 
       repeats : (i : ℕ)
           → Obeys (again (expression e (xOf s i)) (yOf s i)) (record { stack = over s (yOf s i) (entries.again i ∷ W); lanes = onlyActive L (actOf s e L μ (xOf s i)); cells = μ })
@@ -117,9 +117,9 @@ module _ (s e : List ℕ) where
       unfolding execute
       breaks = same (items-drop W) zero-bit (λ t. broken-state L t A) refl
 
-      calls : (x : ℕ) → Obeys (invoke x) (record { stack = over s x (token 3 (L .active) ∷ W); lanes = L; cells = μ })
+      calls : (x : ℕ) → Obeys (invoke x) (record { stack = over s x (token callToken (L .active) ∷ W); lanes = L; cells = μ })
       unfolding execute items
-      calls x = same (items-over x (token 3 (L .active) ∷ W)) (λ t. refl) (λ t. refl) refl
+      calls x = same (items-over x (token callToken (L .active) ∷ W)) (λ t. refl) (λ t. refl) refl
 
       returns : Obeys return (record { stack = fromToken W; lanes = returnedBy L; cells = μ })
       unfolding execute
@@ -218,7 +218,7 @@ module _ (s e : List ℕ) where
     pub begins : (μ : Mem) → configOf s e (startOf s n μ) ≡ initial (bodiesOf s e) n 0 μ
     unfolding items
     begins μ =
-        same (items-over 0 (token 3 (allOf n) ∷ []) ∙ ap (λ (Θ : Mask). onto (bodiesOf s e 0) (tok call Θ ∷ [])) (fun-ext (λ t. all-bit n t few))) (λ t. all-bit n t few) state-start refl
+        same (items-over 0 (token callToken (allOf n) ∷ []) ∙ ap (λ (Θ : Mask). onto (bodiesOf s e 0) (tok call Θ ∷ [])) (fun-ext (λ t. all-bit n t few))) (λ t. all-bit n t few) state-start refl
 
     low-start : Below n (allOf n)
     low-start t h = all-bit n t few ∙ le-ltb t n h

@@ -7,12 +7,13 @@ use lib.Dec.{eqb, ltb}
 use Rattle.relation.specs.Bits.{bitOf}
 use Rattle.warps.specs.Language.{Expr, literal, cell, lane, plus, minus, less, Mem, test}
 use Rattle.kernels.specs.Limits.{mostExpressions}
-use Rattle.kernels.specs.Rows.{exprKind, exprX, exprY}
+use Rattle.kernels.specs.Rows.{exprKind, exprX, exprY, numberExpr, cellExpr, laneExpr, sumExpr, differenceExpr}
 
--- by its kind: 0 a number, 1 a cell, 2 the lane's number, 3 sum, 4 difference, 5 less-than
+-- by its kind; what is none of the first five is a less-than
 abbrev pub exprBy : (kind x : ℕ) → Expr → Expr → Expr
 exprBy kind x a b =
-    cond (eqb kind 0) (literal x) (cond (eqb kind 1) (cell x) (cond (eqb kind 2) lane (cond (eqb kind 3) (plus a b) (cond (eqb kind 4) (minus a b) (less a b)))))
+    cond (eqb kind numberExpr) (literal x)
+    (cond (eqb kind cellExpr) (cell x) (cond (eqb kind laneExpr) lane (cond (eqb kind sumExpr) (plus a b) (cond (eqb kind differenceExpr) (minus a b) (less a b)))))
 
 module _ (e : List ℕ) where
   -- row i, its operands at most f levels deep; an operand that is no earlier row is 0
@@ -28,8 +29,9 @@ module _ (e : List ℕ) where
 -- the value of a row, from those of its operands and of cell x
 abbrev pub valueBy : (kind x a b held t : ℕ) → ℕ
 valueBy kind x a b held t =
-    cond (eqb kind 0) x
-    (cond (eqb kind 1) held (cond (eqb kind 2) t (cond (eqb kind 3) ((a + b) % 2 ^ 32) (cond (eqb kind 4) ((a + 2 ^ 32 - b) % 2 ^ 32) (cond (ltb a b) 1 0)))))
+    cond (eqb kind numberExpr) x
+    (cond (eqb kind cellExpr) held
+    (cond (eqb kind laneExpr) t (cond (eqb kind sumExpr) ((a + b) % 2 ^ 32) (cond (eqb kind differenceExpr) ((a + 2 ^ 32 - b) % 2 ^ 32) (cond (ltb a b) 1 0)))))
 
 -- act, as a word: of the lanes below n, those in a mask for which e is not 0
 unfoldable pub acting : (mask : ℕ) → Expr → Mem → (n : ℕ) → ℕ
