@@ -3,9 +3,9 @@ ghost use mathlib.Core.Path.{_≡_};
 ghost use Rattle.lanes.specs.Words.{wokenBy, brokenBy, returnedBy, leaving, onlyActive, highestOf, allOf};
 
 // The types of tokens, by number.
-pub struct Token;
+pub struct TokenKind;
 
-impl Token {
+impl TokenKind {
     pub const SYNC: u32 = 0;
 
     pub const DIV: u32 = 1;
@@ -27,7 +27,7 @@ impl Lanes {
     pub fn wake(self, kind: u32, mask: u32) -> Self
         ensures { λ r. ⌜ r ≡ wokenBy self kind mask ⌝ }
     {
-        if kind < Token::BRK {
+        if kind < TokenKind::BRK {
             let some = mask ^ (mask & self.broke);
             return Lanes {
                 active: some ^ (some & self.returned),
@@ -35,7 +35,7 @@ impl Lanes {
                 returned: self.returned,
             };
         }
-        if kind == Token::BRK {
+        if kind == TokenKind::BRK {
             let broke = self.broke ^ (self.broke & mask);
             let some = mask ^ (mask & broke);
             return Lanes {

@@ -14,33 +14,33 @@ use lib.Seq.{getD-set-same, getD-set-other}
 use Rattle.warps.specs.Language.{Mem, eval}
 use Rattle.values.specs.Expressions.{expression}
 use Rattle.kernels.specs.Rows.{listOf}
-use Rattle.machine.specs.Entries.{Entry, row, again, token, againFrom, tokensFrom, tokenNumber, entryOf, held, fromToken, pile}
+use Rattle.machine.specs.Entries.{Entry, row, again, token, againFrom, tokensFrom, tokenNumber, entryOf, stackIn, fromToken, pile}
 
 -- the highest lane's value is stored
 pub stored : (μ : Mem) (e : List ℕ) (c c′ y y′ t t′ v : ℕ) → c ≡ c′ → y ≡ y′ → t ≡ t′ → v ≡ eval (expression e y) t μ → set μ c v ≡ set μ c′ (eval (expression e y′) t′ μ)
 stored μ e c c′ y y′ t t′ v p q r w = ap₂ (set μ) p (w ∙ ap₂ (λ (y t : ℕ). eval (expression e y) t μ) q r)
 
-pub held-long : (a : List ℕ) (n : ℕ) → length (held a n) ≡ n
-unfolding held
+pub held-long : (a : List ℕ) (n : ℕ) → length (stackIn a n) ≡ n
+unfolding stackIn
 held-long a zero = refl
 held-long a (suc n) = ap suc (held-long a n)
 
-pub held-none : (a : List ℕ) (n : ℕ) → n ≡ 0 → held a n ≡ []
-unfolding held
+pub held-none : (a : List ℕ) (n : ℕ) → n ≡ 0 → stackIn a n ≡ []
+unfolding stackIn
 held-none a n e = rw e
 
 -- what stands above a height does not count
-held-below : (a : List ℕ) (n k e : ℕ) → n ≤ k → held (set a k e) n ≡ held a n
-unfolding held
+held-below : (a : List ℕ) (n k e : ℕ) → n ≤ k → stackIn (set a k e) n ≡ stackIn a n
+unfolding stackIn
 held-below a zero k e h = refl
 held-below a (suc n) k e h = ap₂ _∷_ (ap entryOf (getD-set-other a k n e 0 (λ q. omega arith))) (held-below a n k e (omega arith))
 
-pub held-push : (a : List ℕ) (n e : ℕ) → n < length a → held (set a n e) (n + 1) ≡ entryOf e ∷ held a n
-unfolding held
+pub held-push : (a : List ℕ) (n e : ℕ) → n < length a → stackIn (set a n e) (n + 1) ≡ entryOf e ∷ stackIn a n
+unfolding stackIn
 held-push a n e h = rw (add-one n) (ap₂ _∷_ (ap entryOf (getD-set-same a n e 0 h)) (held-below a n n e (omega arith)))
 
-pub held-top : (a : List ℕ) (n : ℕ) → 0 < n → held a n ≡ entryOf (getD a (n - 1) 0) ∷ held a (n - 1)
-unfolding held
+pub held-top : (a : List ℕ) (n : ℕ) → 0 < n → stackIn a n ≡ entryOf (getD a (n - 1) 0) ∷ stackIn a (n - 1)
+unfolding stackIn
 held-top a zero h = absurd (omega arith)
 held-top a (suc n) h = let e : suc n - 1 ≡ n = omega arith in rw e
 
@@ -64,19 +64,19 @@ pub again-put : (W′ W : List Entry) (i : ℕ) → W′ ≡ entryOf (againFrom 
 again-put W′ W i q h = q ∙ ap (λ (x : Entry). x ∷ W) (entry-again (againFrom + i) (omega arith) (omega arith) ∙ ap again (omega arith))
 
 -- ---- dropping statements, from the top
-module _ (a : List ℕ) (X : List Entry) (n : ℕ) (E : X ≡ fromToken (held a n)) where
-  pub drop-row : 0 < n → getD a (n - 1) 0 < tokensFrom → X ≡ fromToken (held a (n - 1))
+module _ (a : List ℕ) (X : List Entry) (n : ℕ) (E : X ≡ fromToken (stackIn a n)) where
+  pub drop-row : 0 < n → getD a (n - 1) 0 < tokensFrom → X ≡ fromToken (stackIn a (n - 1))
   unfolding fromToken
   drop-row h l =
       by-cases (decLt (getD a (n - 1) 0) againFrom) (λ (q : getD a (n - 1) 0 < againFrom). E ∙ rw (held-top a n h, entry-row _ q))
       (λ (q : ¬ (getD a (n - 1) 0 < againFrom)). E ∙ rw (held-top a n h, entry-again _ (omega arith) l))
 
-  pub drop-token : 0 < n → tokensFrom ≤ getD a (n - 1) 0 → held a n ≡ X
+  pub drop-token : 0 < n → tokensFrom ≤ getD a (n - 1) 0 → stackIn a n ≡ X
   unfolding fromToken
   drop-token h l = sym (E ∙ rw (held-top a n h, entry-token _ l))
 
-  pub drop-none : n ≤ 0 → held a n ≡ X
-  unfolding fromToken held
+  pub drop-none : n ≤ 0 → stackIn a n ≡ X
+  unfolding fromToken stackIn
   drop-none h = let z : n ≡ 0 = omega arith in sym (E ∙ rw z)
 
 -- ---- piling the rows of a list, from the last on: row i is the next
@@ -90,15 +90,15 @@ pub record Piled (s : List ℕ) (b n L height : ℕ) (W : List Entry) (a : List 
   pub long : length a ≡ L
   pub low : i ≤ n
   pub up : d + i ≤ height + n
-  pub is : held a d ≡ pile s (n - i) i b W
+  pub is : stackIn a d ≡ pile s (n - i) i b W
 
 module _ (s : List ℕ) (b n L height : ℕ) (W : List Entry) where
-  pub piled-start : (a : List ℕ) → length a ≡ L → held a height ≡ W → Piled s b n L height W a n height
+  pub piled-start : (a : List ℕ) → length a ≡ L → stackIn a height ≡ W → Piled s b n L height W a n height
   unfolding pile
   piled-start a l e = record { long = l; low = omega arith; up = omega arith; is = let z : n - n ≡ 0 = omega arith in rw z e }
 
   module _ (a : List ℕ) (i d : ℕ) (P : Piled s b n L height W a i d) (h : 0 < i) where
-    here : held a d ≡ pile s (n - (i - 1) - 1) (suc (i - 1)) b W
+    here : stackIn a d ≡ pile s (n - (i - 1) - 1) (suc (i - 1)) b W
     here =
         let shift : n - i ≡ n - (i - 1) - 1 = omega (arith, P .low) in
         let back : suc (i - 1) ≡ i = omega arith in
@@ -122,5 +122,5 @@ module _ (s : List ℕ) (b n L height : ℕ) (W : List Entry) where
         let u : d + i ≤ height + n = P .up in
         record { long = P .long; low = omega arith; up = omega arith; is = here ∙ sym (pile-one s b (n - (i - 1)) (i - 1) W (omega arith) ∙ rw (ne-eqb (listOf s (i - 1)) b e)) }
 
-  pub piled-end : (a : List ℕ) (i d : ℕ) → Piled s b n L height W a i d → i ≤ 0 → held a d ≡ pile s n 0 b W
+  pub piled-end : (a : List ℕ) (i d : ℕ) → Piled s b n L height W a i d → i ≤ 0 → stackIn a d ≡ pile s n 0 b W
   piled-end a i d P h = let z : i ≡ 0 = omega arith in let y : n - 0 ≡ n = omega arith in P .is ∙ rw (z, y)

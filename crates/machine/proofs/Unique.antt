@@ -9,13 +9,13 @@ use lib.ListN.{length}
 use Rattle.relation.proofs.Truth.{split}
 use Rattle.warps.specs.Language.{Mem}
 use Rattle.machine.specs.declared.stack.Stand.{Stand}
-use Rattle.machine.specs.Entries.{held}
-use Rattle.machine.specs.Step.{Warp, warpOf, workable, Starts, Steps}
+use Rattle.machine.specs.Entries.{stackIn}
+use Rattle.machine.specs.Step.{Warp, warpOf, workable, StartsWarp, StepsWarp}
 use Rattle.machine.proofs.Held.{held-long}
 
 pub record Alike (room₁ room₂ : List ℕ) (st₁ st₂ : Stand) : Type 0 where
   pub stand : st₁ ≡ st₂
-  pub entries : held room₁ (st₁ .height) ≡ held room₂ (st₂ .height)
+  pub entries : stackIn room₁ (st₁ .height) ≡ stackIn room₂ (st₂ .height)
 
 -- one warp stands in one way
 alike : (room₁ room₂ : List ℕ) (st₁ st₂ : Stand) (μ₁ μ₂ : Mem) → warpOf room₁ st₁ μ₁ ≡ warpOf room₂ st₂ μ₂ → Alike room₁ room₂ st₁ st₂
@@ -24,9 +24,9 @@ alike room₁ room₂ st₁ st₂ μ₁ μ₂ e =
     record { stand = λ i. record { height = h i; lanes = e i .lanes }; entries = ap (λ (w : Warp). w .stack) e }
 
 both : {room room₁ room₂ : List ℕ} {st st₁ st₂ : Stand} → room₁ ≡ room → st₁ ≡ st → room₂ ≡ room → st₂ ≡ st → Alike room₁ room₂ st₁ st₂
-both p q r t = record { stand = q ∙ sym t; entries = λ i. held ((p ∙ sym r) i) ((q ∙ sym t) i .height) }
+both p q r t = record { stand = q ∙ sym t; entries = λ i. stackIn ((p ∙ sym r) i) ((q ∙ sym t) i .height) }
 
-module _ (s : List ℕ) (lanes : ℕ) (room : List ℕ) (room₁ room₂ : List ℕ) (st₁ st₂ : Stand) (A : Starts s lanes room room₁ st₁) (B : Starts s lanes room room₂ st₂) where
+module _ (s : List ℕ) (lanes : ℕ) (room : List ℕ) (room₁ room₂ : List ℕ) (st₁ st₂ : Stand) (A : StartsWarp s lanes room room₁ st₁) (B : StartsWarp s lanes room room₂ st₂) where
   pub starts-one : Alike room₁ room₂ st₁ st₂
   starts-one =
       ⊎-elim (λ (w : workable s room 0 ≡ true). alike room₁ room₂ st₁ st₂ [] [] (A .stands w [] ∙ sym (B .stands w [])))
@@ -36,7 +36,7 @@ module _ (s : List ℕ) (lanes : ℕ) (room : List ℕ) (room₁ room₂ : List 
   starts-kept w = A .refuses w .0 ∙ sym (B .refuses w .0)
 
 module _ (s e : List ℕ) (st : Stand) (room : List ℕ) (μ : Mem) (room₁ room₂ : List ℕ) (μ₁ μ₂ : Mem) (st₁ st₂ : Stand)
-    (A : Steps s e st room μ room₁ μ₁ st₁) (B : Steps s e st room μ room₂ μ₂ st₂) where
+    (A : StepsWarp s e st room μ room₁ μ₁ st₁) (B : StepsWarp s e st room μ room₂ μ₂ st₂) where
   pub steps-one : Alike room₁ room₂ st₁ st₂ × (μ₁ ≡ μ₂)
   steps-one =
       ⊎-elim

@@ -34,9 +34,9 @@ unfoldable pub entryOf : ℕ → Entry
 entryOf e = cond (ltb e againFrom) (row e) (cond (ltb e tokensFrom) (again (e - againFrom)) (token ((e - tokensFrom) % 4) ((e - tokensFrom) / 4 % 2 ^ 32)))
 
 -- what a room holds up to a height, the top first
-unfoldable pub held : (room : List ℕ) (height : ℕ) → List Entry
-held room zero = []
-held room (suc n) = entryOf (getD room n 0) ∷ held room n
+unfoldable pub stackIn : (room : List ℕ) (height : ℕ) → List Entry
+stackIn room zero = []
+stackIn room (suc n) = entryOf (getD room n 0) ∷ stackIn room n
 
 -- [S] τ W without its statements
 unfoldable pub fromToken : List Entry → List Entry
@@ -51,5 +51,5 @@ pile s zero i b W = W
 pile s (suc n) i b W = cond (eqb (listOf s i) b) (row i ∷ pile s n (suc i) b W) (pile s n (suc i) b W)
 
 -- S W: the rows of list b, in order, over W
-abbrev pub over : (s : List ℕ) (b : ℕ) → List Entry → List Entry
-over s b W = pile s (statements s) 0 b W
+abbrev pub listOver : (s : List ℕ) (b : ℕ) → List Entry → List Entry
+listOver s b W = pile s (statements s) 0 b W

@@ -7,7 +7,7 @@ use Rattle.kernels.specs.Rows.{statements}
 use Rattle.machine.specs.Entries.{mostEntries, stackRoom}
 
 -- at most 256 statements, a stack's room, and a stack in it that is not over its limit
-pub record Roomy (s room : List ℕ) (height : ℕ) : Type 0 where
+pub record CanStep (s room : List ℕ) (height : ℕ) : Type 0 where
   pub few : statements s ≤ mostStatements
   pub wide : stackRoom ≤ length room
   pub low : height ≤ mostEntries

@@ -12,7 +12,7 @@ use Rattle.kernels.specs.Limits.{mostStatements}
 use Rattle.kernels.specs.Rows.{statements, kindOf, xOf, yOf, zOf, skipKind, assignKind, ifKind, whileKind, breakKind, callKind}
 use Rattle.values.specs.Expressions.{expression, acting}
 use Rattle.machine.specs.declared.stack.Stand.{Stand}
-use Rattle.machine.specs.Entries.{mostEntries, stackRoom, Entry, row, again, token, held, fromToken, over}
+use Rattle.machine.specs.Entries.{mostEntries, stackRoom, Entry, row, again, token, stackIn, fromToken, listOver}
 
 -- W, Θ and Δ, μ
 pub record Warp : Type 0 where
@@ -29,18 +29,18 @@ module _ (s e : List ℕ) where
   abbrev pub parted : (i : ℕ) → List Entry → Lanes → Mem → Warp
   parted i W L μ =
       record {
-        stack = over s (zOf s i) (token divToken (actOf L μ (xOf s i)) ∷ over s (yOf s i) (token syncToken (L .active) ∷ W));
+        stack = listOver s (zOf s i) (token divToken (actOf L μ (xOf s i)) ∷ listOver s (yOf s i) (token syncToken (L .active) ∷ W));
         lanes = leaving L (actOf L μ (xOf s i));
         cells = μ;
       }
 
   -- (while)
   abbrev pub looping : (i : ℕ) → List Entry → Lanes → Mem → Warp
-  looping i W L μ = record { stack = over s (yOf s i) (again i ∷ token brkToken (L .active) ∷ W); lanes = onlyActive L (actOf L μ (xOf s i)); cells = μ }
+  looping i W L μ = record { stack = listOver s (yOf s i) (again i ∷ token brkToken (L .active) ∷ W); lanes = onlyActive L (actOf L μ (xOf s i)); cells = μ }
 
   -- the underlined (while), which lies on W
   abbrev pub repeating : (i : ℕ) → List Entry → Lanes → Mem → Warp
-  repeating i W L μ = record { stack = over s (yOf s i) W; lanes = onlyActive L (actOf L μ (xOf s i)); cells = μ }
+  repeating i W L μ = record { stack = listOver s (yOf s i) W; lanes = onlyActive L (actOf L μ (xOf s i)); cells = μ }
 
   -- the statement of row i, with some lane active, over W
   unfoldable pub obey : (i : ℕ) → List Entry → Lanes → Mem → Warp
@@ -54,7 +54,7 @@ module _ (s e : List ℕ) where
       -- (break)
       (cond (eqb (kindOf s i) breakKind) (record { stack = fromToken W; lanes = brokenBy L; cells = μ })
       -- (call)
-      (cond (eqb (kindOf s i) callKind) (record { stack = over s (xOf s i) (token callToken (L .active) ∷ W); lanes = L; cells = μ })
+      (cond (eqb (kindOf s i) callKind) (record { stack = listOver s (xOf s i) (token callToken (L .active) ∷ W); lanes = L; cells = μ })
       -- (return)
       (record { stack = fromToken W; lanes = returnedBy L; cells = μ }))))))
 
@@ -68,29 +68,29 @@ module _ (s e : List ℕ) where
   -- (inact), or the underlined (while)
   advance (again i ∷ W) L μ = cond (eqb (L .active) 0) (record { stack = fromToken W; lanes = L; cells = μ }) (repeating i (again i ∷ W) L μ)
 
-  abbrev pub next : Warp → Warp
-  next w = advance (w .stack) (w .lanes) (w .cells)
+  abbrev pub nextWarp : Warp → Warp
+  nextWarp w = advance (w .stack) (w .lanes) (w .cells)
 
 -- the start: the kernel's rows over a call token, and so many lanes active
 abbrev pub startOf : (s : List ℕ) (lanes : ℕ) → Mem → Warp
-startOf s lanes μ = record { stack = over s 0 (token callToken (allOf lanes) ∷ []); lanes = record { active = allOf lanes; broke = 0; returned = 0 }; cells = μ }
+startOf s lanes μ = record { stack = listOver s 0 (token callToken (allOf lanes) ∷ []); lanes = record { active = allOf lanes; broke = 0; returned = 0 }; cells = μ }
 
 -- ---- what the doors promise
 
 -- the warp that a room, a height and lanes, and cells hold
 abbrev pub warpOf : (room : List ℕ) → Stand → Mem → Warp
-warpOf room st μ = record { stack = held room (st .height); lanes = st .lanes; cells = μ }
+warpOf room st μ = record { stack = stackIn room (st .height); lanes = st .lanes; cells = μ }
 
 -- what a step needs: at most 256 statements, a stack's room, and a stack that is not over its limit
 unfoldable pub workable : (s room : List ℕ) (height : ℕ) → Bool
 workable s room height = (leb (statements s) mostStatements && leb stackRoom (length room)) && leb height mostEntries
 
 -- a start in a room: the warp stands there; or it cannot, and nothing does
-pub record Starts (s : List ℕ) (lanes : ℕ) (room room′ : List ℕ) (st : Stand) : Type 0 where
+pub record StartsWarp (s : List ℕ) (lanes : ℕ) (room room′ : List ℕ) (st : Stand) : Type 0 where
   pub stands : workable s room 0 ≡ true → (μ : Mem) → warpOf room′ st μ ≡ startOf s lanes μ
   pub refuses : workable s room 0 ≡ false → (room′ ≡ room) × (st ≡ record { height = 0; lanes = record { active = 0; broke = 0; returned = 0 } })
 
 -- a step in place: the next warp stands there; or it cannot, and all is as it was
-pub record Steps (s e : List ℕ) (st : Stand) (room : List ℕ) (μ : Mem) (room′ : List ℕ) (μ′ : Mem) (st′ : Stand) : Type 0 where
-  pub steps : workable s room (st .height) ≡ true → warpOf room′ st′ μ′ ≡ next s e (warpOf room st μ)
+pub record StepsWarp (s e : List ℕ) (st : Stand) (room : List ℕ) (μ : Mem) (room′ : List ℕ) (μ′ : Mem) (st′ : Stand) : Type 0 where
+  pub steps : workable s room (st .height) ≡ true → warpOf room′ st′ μ′ ≡ nextWarp s e (warpOf room st μ)
   pub keeps : workable s room (st .height) ≡ false → (room′ ≡ room) × (μ′ ≡ μ) × (st′ ≡ st)

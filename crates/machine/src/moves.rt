@@ -1,7 +1,7 @@
 // The start and the step, for any numbers in any room.
 ghost use mathlib.Core.Path.{_≡_};
-ghost use Rattle.machine.specs.Needs.{Roomy};
-ghost use Rattle.machine.specs.Step.{next, warpOf, workable, Starts, Steps};
+ghost use Rattle.machine.specs.Needs.{CanStep};
+ghost use Rattle.machine.specs.Step.{nextWarp, warpOf, workable, StartsWarp, StepsWarp};
 use crate::rules::enter;
 use crate::rules::obey_row;
 use crate::rules::repeat;
@@ -27,7 +27,7 @@ fn fits(code: &[u32], stack: &[u64], height: usize) -> bool
 
 // The start of a kernel with so many lanes, into a room.
 pub fn start(code: &[u32], lanes: u32, stack: &mut [u64]) -> Stand
-    ensures { λ r. ⌜ Starts (now (code .entry)) lanes (now (stack .entry)) (now (stack .exit)) r ⌝ }
+    ensures { λ r. ⌜ StartsWarp (now (code .entry)) lanes (now (stack .entry)) (now (stack .exit)) r ⌝ }
 {
     if fits(code, stack, 0) {
         let all = all_of(lanes);
@@ -59,9 +59,9 @@ fn move_on(
     stack: &mut [u64],
     cells: &mut [u32],
 ) -> Stand
-    requires { ⌜ Roomy (now code) (now stack) (stand .height) ⌝ }
+    requires { ⌜ CanStep (now code) (now stack) (stand .height) ⌝ }
     ensures { λ r. ⌜ warpOf (now (stack .exit)) r (now (cells .exit))
-        ≡ next (now (code .entry)) (now (expressions .entry)) (warpOf (now (stack .entry)) stand (now (cells .entry))) ⌝ }
+        ≡ nextWarp (now (code .entry)) (now (expressions .entry)) (warpOf (now (stack .entry)) stand (now (cells .entry))) ⌝ }
 {
     let height = stand.height;
     let lanes = stand.lanes;
@@ -98,7 +98,7 @@ pub fn step(
     stack: &mut [u64],
     cells: &mut [u32],
 ) -> Stand
-    ensures { λ r. ⌜ Steps (now (code .entry)) (now (expressions .entry)) stand (now (stack .entry)) (now (cells .entry))
+    ensures { λ r. ⌜ StepsWarp (now (code .entry)) (now (expressions .entry)) stand (now (stack .entry)) (now (cells .entry))
         (now (stack .exit)) (now (cells .exit)) r ⌝ }
 {
     if fits(code, stack, stand.height) {

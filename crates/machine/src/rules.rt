@@ -7,8 +7,8 @@ ghost use Rattle.warps.specs.Language.{eval};
 ghost use Rattle.lanes.specs.Words.{callToken, highestOf};
 ghost use Rattle.kernels.specs.Rows.{xOf, yOf};
 ghost use Rattle.values.specs.Expressions.{expression};
-ghost use Rattle.machine.specs.Entries.{token, held, over};
-ghost use Rattle.machine.specs.Needs.{Roomy};
+ghost use Rattle.machine.specs.Entries.{token, stackIn, listOver};
+ghost use Rattle.machine.specs.Needs.{CanStep};
 ghost use Rattle.machine.specs.Step.{parted, looping, repeating, obey, warpOf};
 use crate::stack::Stand;
 use crate::stack::drop_rows;
@@ -17,7 +17,7 @@ use crate::stack::put_again;
 use crate::stack::put_token;
 use kernels::Kernel;
 use lanes::Lanes;
-use lanes::Token;
+use lanes::TokenKind;
 use lanes::highest;
 use values::acting_lanes;
 use values::at;
@@ -47,17 +47,17 @@ fn part(
     height: usize,
     cells: &[u32],
 ) -> Stand
-    requires { ⌜ Roomy (now code) (now stack) height × (i < 256) ⌝ }
+    requires { ⌜ CanStep (now code) (now stack) height × (i < 256) ⌝ }
     ensures { λ r. ⌜ warpOf (now (stack .exit)) r (now (cells .entry))
-        ≡ parted (now (code .entry)) (now (expressions .entry)) i (held (now (stack .entry)) height) lanes (now (cells .entry)) ⌝ }
+        ≡ parted (now (code .entry)) (now (expressions .entry)) i (stackIn (now (stack .entry)) height) lanes (now (cells .entry)) ⌝ }
 {
     let x = at(code, 5 * i + 2) as usize;
     let y = at(code, 5 * i + 3);
     let z = at(code, 5 * i + 4);
     let acting = acting_lanes(expressions, x, lanes.active, cells);
-    let joined = put_token(stack, height, Token::SYNC, lanes.active);
+    let joined = put_token(stack, height, TokenKind::SYNC, lanes.active);
     let first = push_list(stack, joined, code, y);
-    let divided = put_token(stack, first, Token::DIV, acting);
+    let divided = put_token(stack, first, TokenKind::DIV, acting);
     let height = push_list(stack, divided, code, z);
     let lanes = lanes.leave_out(acting);
     Stand { height, lanes }
@@ -73,14 +73,14 @@ fn enter_loop(
     height: usize,
     cells: &[u32],
 ) -> Stand
-    requires { ⌜ Roomy (now code) (now stack) height × (i < 256) ⌝ }
+    requires { ⌜ CanStep (now code) (now stack) height × (i < 256) ⌝ }
     ensures { λ r. ⌜ warpOf (now (stack .exit)) r (now (cells .entry))
-        ≡ looping (now (code .entry)) (now (expressions .entry)) i (held (now (stack .entry)) height) lanes (now (cells .entry)) ⌝ }
+        ≡ looping (now (code .entry)) (now (expressions .entry)) i (stackIn (now (stack .entry)) height) lanes (now (cells .entry)) ⌝ }
 {
     let x = at(code, 5 * i + 2) as usize;
     let y = at(code, 5 * i + 3);
     let acting = acting_lanes(expressions, x, lanes.active, cells);
-    let left = put_token(stack, height, Token::BRK, lanes.active);
+    let left = put_token(stack, height, TokenKind::BRK, lanes.active);
     let begun = put_again(stack, left, i);
     let height = push_list(stack, begun, code, y);
     let lanes = lanes.only(acting);
@@ -89,10 +89,10 @@ fn enter_loop(
 
 // (call): the function's list, a call token.
 pub(crate) fn enter(code: &[u32], x: u32, active: u32, stack: &mut [u64], height: usize) -> usize
-    requires { ⌜ Roomy (now code) (now stack) height ⌝ }
-    ensures { λ r. ⌜ held (now (stack .exit)) r ≡ over (now (code .entry)) x (token callToken active ∷ held (now (stack .entry)) height) ⌝ }
+    requires { ⌜ CanStep (now code) (now stack) height ⌝ }
+    ensures { λ r. ⌜ stackIn (now (stack .exit)) r ≡ listOver (now (code .entry)) x (token callToken active ∷ stackIn (now (stack .entry)) height) ⌝ }
 {
-    let back = put_token(stack, height, Token::CALL, active);
+    let back = put_token(stack, height, TokenKind::CALL, active);
     push_list(stack, back, code, x)
 }
 
@@ -106,9 +106,9 @@ pub(crate) fn obey_row(
     height: usize,
     cells: &mut [u32],
 ) -> Stand
-    requires { ⌜ Roomy (now code) (now stack) height × (i < 256) ⌝ }
+    requires { ⌜ CanStep (now code) (now stack) height × (i < 256) ⌝ }
     ensures { λ r. ⌜ warpOf (now (stack .exit)) r (now (cells .exit))
-        ≡ obey (now (code .entry)) (now (expressions .entry)) i (held (now (stack .entry)) height) lanes (now (cells .entry)) ⌝ }
+        ≡ obey (now (code .entry)) (now (expressions .entry)) i (stackIn (now (stack .entry)) height) lanes (now (cells .entry)) ⌝ }
 {
     let kind = at(code, 5 * i + 1);
     if kind == Kernel::SKIP {
@@ -148,9 +148,9 @@ pub(crate) fn repeat(
     height: usize,
     cells: &[u32],
 ) -> Stand
-    requires { ⌜ Roomy (now code) (now stack) height × (i < 256) ⌝ }
+    requires { ⌜ CanStep (now code) (now stack) height × (i < 256) ⌝ }
     ensures { λ r. ⌜ warpOf (now (stack .exit)) r (now (cells .entry))
-        ≡ repeating (now (code .entry)) (now (expressions .entry)) i (held (now (stack .entry)) height) lanes (now (cells .entry)) ⌝ }
+        ≡ repeating (now (code .entry)) (now (expressions .entry)) i (stackIn (now (stack .entry)) height) lanes (now (cells .entry)) ⌝ }
 {
     let x = at(code, 5 * i + 2) as usize;
     let y = at(code, 5 * i + 3);

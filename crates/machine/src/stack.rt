@@ -5,7 +5,7 @@ ghost use Prim.Native.Nat.{_+_, _≤_, _<_};
 ghost use lib.ListN.{length};
 ghost use Rattle.kernels.specs.Limits.{mostStatements};
 ghost use Rattle.kernels.specs.Rows.{statements};
-ghost use Rattle.machine.specs.Entries.{token, again, tokenNumber, entryOf, held, fromToken, over};
+ghost use Rattle.machine.specs.Entries.{token, again, tokenNumber, entryOf, stackIn, fromToken, listOver};
 use lanes::Lanes;
 
 pub struct Stack;
@@ -30,7 +30,7 @@ pub struct Stand {
 // An entry goes onto the stack.
 fn put(stack: &mut [u64], height: usize, entry: u64) -> usize
     requires { ⌜ height < length (now stack) ⌝ }
-    ensures { λ r. ⌜ (held (now (stack .exit)) r ≡ entryOf entry ∷ held (now (stack .entry)) height) × (r ≡ height + 1) ⌝ }
+    ensures { λ r. ⌜ (stackIn (now (stack .exit)) r ≡ entryOf entry ∷ stackIn (now (stack .entry)) height) × (r ≡ height + 1) ⌝ }
 {
     stack[height] = entry;
     height + 1
@@ -45,7 +45,7 @@ fn token_number(kind: u32, mask: u32) -> u64
 
 pub(crate) fn put_token(stack: &mut [u64], height: usize, kind: u32, mask: u32) -> usize
     requires { ⌜ (height < length (now stack)) × (kind < 4) ⌝ }
-    ensures { λ r. ⌜ (held (now (stack .exit)) r ≡ token kind mask ∷ held (now (stack .entry)) height) × (r ≡ height + 1) ⌝ }
+    ensures { λ r. ⌜ (stackIn (now (stack .exit)) r ≡ token kind mask ∷ stackIn (now (stack .entry)) height) × (r ≡ height + 1) ⌝ }
 {
     put(stack, height, token_number(kind, mask))
 }
@@ -53,7 +53,7 @@ pub(crate) fn put_token(stack: &mut [u64], height: usize, kind: u32, mask: u32) 
 // Row i, a while that has begun.
 pub(crate) fn put_again(stack: &mut [u64], height: usize, i: usize) -> usize
     requires { ⌜ (height < length (now stack)) × (i < 256) ⌝ }
-    ensures { λ r. ⌜ (held (now (stack .exit)) r ≡ again i ∷ held (now (stack .entry)) height) × (r ≡ height + 1) ⌝ }
+    ensures { λ r. ⌜ (stackIn (now (stack .exit)) r ≡ again i ∷ stackIn (now (stack .entry)) height) × (r ≡ height + 1) ⌝ }
 {
     put(stack, height, Stack::AGAIN + (i as u64))
 }
@@ -61,7 +61,7 @@ pub(crate) fn put_again(stack: &mut [u64], height: usize, i: usize) -> usize
 // The rows of list b, the last first, so that the first lies on top.
 pub(crate) fn push_list(stack: &mut [u64], height: usize, code: &[u32], b: u32) -> usize
     requires { ⌜ (height + 256 ≤ length (now stack)) × (statements (now code) ≤ mostStatements) ⌝ }
-    ensures { λ r. ⌜ (held (now (stack .exit)) r ≡ over (now (code .entry)) b (held (now (stack .entry)) height)) × (r ≤ height + 256) ⌝ }
+    ensures { λ r. ⌜ (stackIn (now (stack .exit)) r ≡ listOver (now (code .entry)) b (stackIn (now (stack .entry)) height)) × (r ≤ height + 256) ⌝ }
 {
     let mut i = code.len() / 5;
     let mut top = height;
@@ -78,7 +78,7 @@ pub(crate) fn push_list(stack: &mut [u64], height: usize, code: &[u32], b: u32) 
 // The height without the statements above the topmost token.
 pub(crate) fn drop_rows(stack: &[u64], height: usize) -> usize
     requires { ⌜ height ≤ length (now stack) ⌝ }
-    ensures { λ r. ⌜ (held (now (stack .entry)) r ≡ fromToken (held (now (stack .entry)) height)) × (r ≤ height) ⌝ }
+    ensures { λ r. ⌜ (stackIn (now (stack .entry)) r ≡ fromToken (stackIn (now (stack .entry)) height)) × (r ≤ height) ⌝ }
 {
     let mut top = height;
     while top > 0 {

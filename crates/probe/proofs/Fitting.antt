@@ -25,7 +25,7 @@ use Rattle.replay.proofs.Refusals.{or-either, unwritten-keeps}
 use Rattle.replay.proofs.Places.{Placed, placed, checked-placed, schedule-few}
 use Rattle.review.specs.Agreement.{number}
 use Rattle.kernels.specs.Limits.{mostStatements}
-use Rattle.runs.specs.declared.Answer.{Answer}
+use Rattle.runs.specs.declared.Course.{Course}
 use Rattle.runs.specs.Run.{RunsKernel}
 use Rattle.runs.proofs.Places.{place-few}
 use Rattle.probe.specs.Numbers.{largest, Counted, PairsCounted}
@@ -104,6 +104,6 @@ rest-in (Accepted m t) n = omega arith
 
 -- ---- the run of a warp
 
-pub warp-place : (statements expressions : List ℕ) (lanes steps : ℕ) (cells cells′ : List ℕ) (r : Answer) → RunsKernel statements expressions lanes steps cells cells′ r → r .place ≤ largest
+pub warp-place : (statements expressions : List ℕ) (lanes steps : ℕ) (cells cells′ : List ℕ) (r : Course) → RunsKernel statements expressions lanes steps cells cells′ r → r .place ≤ largest
 unfolding mostStatements
 warp-place statements expressions lanes steps cells cells′ r R = omega (arith, place-few statements expressions lanes steps cells cells′ r R)

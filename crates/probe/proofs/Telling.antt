@@ -14,7 +14,7 @@ use Rattle.replay.specs.Doors.{WritesSchedule}
 use Rattle.replay.specs.declared.writer.Written.{Written}
 use Rattle.evidence.specs.declared.door.Evidence.{Evidence}
 use Rattle.evidence.specs.Doors.{Evidenced}
-use Rattle.runs.specs.declared.Answer.{Answer}
+use Rattle.runs.specs.declared.Course.{Course}
 use Rattle.runs.specs.Run.{RunsKernel}
 use Rattle.probe.specs.declared.counts.Counts.{Counts}
 use Rattle.probe.specs.Numbers.{answerRoom, largest, toldNumbers, pairNumbers, countsOf}
@@ -77,7 +77,7 @@ module _ (statements expressions : List ℕ) (lanes steps : ℕ) (cells answer :
   pub warp-short : length answer < answerRoom → ProbesWarp statements expressions lanes steps cells answer cells answer 14
   warp-short h = record { refuses = λ _. (refl, refl, refl); ran = λ l. absurd (omega arith) }
 
-  pub warp-told : {r : Answer} {cells′ answer′ : List ℕ} → answerRoom ≤ length answer → RunsKernel statements expressions lanes steps cells cells′ r
+  pub warp-told : {r : Course} {cells′ answer′ : List ℕ} → answerRoom ≤ length answer → RunsKernel statements expressions lanes steps cells cells′ r
       → answer′ ≡ over (toldNumbers (tell (r .number) (r .place) 0) (r .ending) 0) answer
       → ProbesWarp statements expressions lanes steps cells answer cells′ (set (set answer′ 4 (r .taken % 2 ^ 32)) 5 (r .taken / 2 ^ 32)) (r .number)
   unfolding answerRoom

@@ -20,7 +20,7 @@ use Rattle.replay.proofs.Unique.{write-one}
 use Rattle.review.specs.Agreement.{number}
 use Rattle.evidence.specs.declared.door.Evidence.{Evidence}
 use Rattle.evidence.proofs.Unique.{evidence-one}
-use Rattle.runs.specs.Run.{Told}
+use Rattle.runs.specs.Run.{KernelTold}
 use Rattle.runs.proofs.Unique.{kernel-one}
 use Rattle.probe.specs.Numbers.{answerRoom, reviewNumbers, writtenNumbers, readingNumbers, warpNumbers}
 use Rattle.probe.specs.Promise.{ProbesReview, ProbesSchedule, ProbesRead, ProbesClose, ProbesWarp}
@@ -85,4 +85,4 @@ probe-warp-one {statements} {expressions} {lanes} {steps} {cells} {answer} A B =
     let (r, R, p, t) = A .ran (omega arith) in
     let (r′, R′, p′, t′) = B .ran (omega arith) in
     let e = kernel-one statements expressions lanes steps cells _ _ r r′ R R′ in
-    (p ∙ ap (λ (z : Told). z .answer .number) e ∙ sym p′, ap (λ (z : Told). z .cells) e, t ∙ ap (λ (z : Told). over (warpNumbers (z .answer)) answer) e ∙ sym t′))
+    (p ∙ ap (λ (z : KernelTold). z .answer .number) e ∙ sym p′, ap (λ (z : KernelTold). z .cells) e, t ∙ ap (λ (z : KernelTold). over (warpNumbers (z .answer)) answer) e ∙ sym t′))

@@ -11,7 +11,7 @@ use Rattle.replay.specs.declared.writer.Written.{Written}
 use Rattle.sheet.specs.Sheet.{mostKept, pair}
 use Rattle.sheet.specs.declared.Pair.{Pair}
 use Rattle.evidence.specs.declared.door.Evidence.{Evidence}
-use Rattle.runs.specs.declared.Answer.{Answer}
+use Rattle.runs.specs.declared.Course.{Course}
 use Rattle.probe.specs.declared.counts.Counts.{Counts}
 
 -- an answer room has at least so many numbers
@@ -48,7 +48,7 @@ abbrev pub readingNumbers : Reading → ℕ → List ℕ
 readingNumbers r n = toldNumbers (answered r .told) (answered r .commands) (answered r .threads) ++ min (restAt r n) largest ∷ []
 
 -- Those of a warp's run: its place, how it ended, and then the steps taken, the low half and the high half.
-abbrev pub warpNumbers : Answer → List ℕ
+abbrev pub warpNumbers : Course → List ℕ
 warpNumbers r = toldNumbers (tell (r .number) (r .place) 0) (r .ending) 0 ++ r .taken % 2 ^ 32 ∷ r .taken / 2 ^ 32 ∷ []
 
 -- ---- what the parts ask for

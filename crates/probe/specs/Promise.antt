@@ -18,7 +18,7 @@ use Rattle.replay.specs.declared.writer.Written.{Written}
 use Rattle.review.specs.Agreement.{number}
 use Rattle.evidence.specs.declared.door.Evidence.{Evidence}
 use Rattle.evidence.specs.Doors.{Evidenced}
-use Rattle.runs.specs.declared.Answer.{Answer}
+use Rattle.runs.specs.declared.Course.{Course}
 use Rattle.runs.specs.Run.{RunsKernel}
 use Rattle.probe.specs.Numbers.{answerRoom, reviewNumbers, writtenNumbers, readingNumbers, warpNumbers}
 
@@ -50,4 +50,4 @@ pub record ProbesClose (relation : List ℕ) (m : ℕ) (relation′ : List ℕ) 
 -- The contract of `probe_warp`: what `run_kernel` answers, of which its own promise leaves no choice.
 pub record ProbesWarp (statements expressions : List ℕ) (lanes steps : ℕ) (cells answer cells′ answer′ : List ℕ) (n : ℕ) : Type 0 where
   pub refuses : length answer < answerRoom → (n ≡ 14) × (cells′ ≡ cells) × (answer′ ≡ answer)
-  pub ran : answerRoom ≤ length answer → (r : Answer) × RunsKernel statements expressions lanes steps cells cells′ r × (n ≡ r .number) × (answer′ ≡ over (warpNumbers r) answer)
+  pub ran : answerRoom ≤ length answer → (r : Course) × RunsKernel statements expressions lanes steps cells cells′ r × (n ≡ r .number) × (answer′ ≡ over (warpNumbers r) answer)

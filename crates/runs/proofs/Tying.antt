@@ -23,7 +23,7 @@ use Rattle.lanes.proofs.Words.{Apart, woken-state, woken-active, broken-state, 
 use Rattle.kernels.specs.Rows.{statements, listOf, kindOf, xOf, yOf, zOf, skipKind, assignKind, ifKind, whileKind, breakKind, callKind}
 use Rattle.values.specs.Expressions.{expression}
 use Rattle.values.proofs.Lanewise.{acting-bit}
-use Rattle.machine.specs.Entries.{Entry, row, token, pile, over, fromToken}
+use Rattle.machine.specs.Entries.{Entry, row, token, pile, listOver, fromToken}
 use Rattle.machine.specs.Entries as entries
 use Rattle.machine.specs.Step.{Warp, actOf, obey, advance, startOf}
 use Rattle.runs.specs.Denotes.{stmOf, bodiesOf, items, configOf}
@@ -49,7 +49,7 @@ module _ (s e : List ℕ) where
       ⊎-elim (λ (q : eqb (listOf s i) b ≡ true). rw q (ap (λ (R : List Item). stm (stmOf s e i) ∷ R) (items-pile m (suc i) b W)))
       (λ (q : eqb (listOf s i) b ≡ false). rw q (items-pile m (suc i) b W)) (split (eqb (listOf s i) b))
 
-  items-over : (b : ℕ) (W : List Entry) → items s e (over s b W) ≡ onto (bodiesOf s e b) (items s e W)
+  items-over : (b : ℕ) (W : List Entry) → items s e (listOver s b W) ≡ onto (bodiesOf s e b) (items s e W)
   items-over b W = items-pile (statements s) 0 b W
 
   items-drop : (W : List Entry) → items s e (fromToken W) ≡ unwind (items s e W)
@@ -94,22 +94,22 @@ module _ (s e : List ℕ) where
 
       branches : (x y z : ℕ)
           → Obeys (branch (expression e x) y z)
-          (record { stack = over s z (token divToken (actOf s e L μ x) ∷ over s y (token syncToken (L .active) ∷ W)); lanes = leaving L (actOf s e L μ x); cells = μ })
+          (record { stack = listOver s z (token divToken (actOf s e L μ x) ∷ listOver s y (token syncToken (L .active) ∷ W)); lanes = leaving L (actOf s e L μ x); cells = μ })
       unfolding execute items
       branches x y z =
           same
-          (items-over z (token divToken (actOf s e L μ x) ∷ over s y (token syncToken (L .active) ∷ W))
+          (items-over z (token divToken (actOf s e L μ x) ∷ listOver s y (token syncToken (L .active) ∷ W))
           ∙ ap (onto (bodiesOf s e z)) (ap₂ (λ (m : Mask) (R : List Item). tok div m ∷ R) (fun-ext (acted x)) (items-over y (token syncToken (L .active) ∷ W))))
           (λ t. except-bit (L .active) (actOf s e L μ x) t ∙ ap (λ (b : Bool). bitOf (L .active) t && not b) (acted x t)) (λ t. refl) refl
 
       loops : (i : ℕ)
           → Obeys (while (expression e (xOf s i)) (yOf s i))
-          (record { stack = over s (yOf s i) (entries.again i ∷ token brkToken (L .active) ∷ W); lanes = onlyActive L (actOf s e L μ (xOf s i)); cells = μ })
+          (record { stack = listOver s (yOf s i) (entries.again i ∷ token brkToken (L .active) ∷ W); lanes = onlyActive L (actOf s e L μ (xOf s i)); cells = μ })
       unfolding execute items
       loops i = same (items-over (yOf s i) (entries.again i ∷ token brkToken (L .active) ∷ W)) (acted (xOf s i)) (λ t. refl) refl
 
       repeats : (i : ℕ)
-          → Obeys (again (expression e (xOf s i)) (yOf s i)) (record { stack = over s (yOf s i) (entries.again i ∷ W); lanes = onlyActive L (actOf s e L μ (xOf s i)); cells = μ })
+          → Obeys (again (expression e (xOf s i)) (yOf s i)) (record { stack = listOver s (yOf s i) (entries.again i ∷ W); lanes = onlyActive L (actOf s e L μ (xOf s i)); cells = μ })
       unfolding execute items
       repeats i = same (items-over (yOf s i) (entries.again i ∷ W)) (acted (xOf s i)) (λ t. refl) refl
 
@@ -117,7 +117,7 @@ module _ (s e : List ℕ) where
       unfolding execute
       breaks = same (items-drop W) zero-bit (λ t. broken-state L t A) refl
 
-      calls : (x : ℕ) → Obeys (invoke x) (record { stack = over s x (token callToken (L .active) ∷ W); lanes = L; cells = μ })
+      calls : (x : ℕ) → Obeys (invoke x) (record { stack = listOver s x (token callToken (L .active) ∷ W); lanes = L; cells = μ })
       unfolding execute items
       calls x = same (items-over x (token callToken (L .active) ∷ W)) (λ t. refl) (λ t. refl) refl
 
@@ -196,7 +196,7 @@ module _ (s e : List ℕ) where
           (sound-choice (eqb (kindOf s i) callKind) _ _ (record { apart = A; low = l; tokens = tokens-pile (statements s) 0 (xOf s i) _ (l, T) })
           (dropped (returnedBy L) (apart-returned L A) (λ t h. zero-bit t)))))))
 
-      sound-again : (i : ℕ) → Sound n (record { stack = over s (yOf s i) (entries.again i ∷ W); lanes = onlyActive L (actOf s e L μ (xOf s i)); cells = μ })
+      sound-again : (i : ℕ) → Sound n (record { stack = listOver s (yOf s i) (entries.again i ∷ W); lanes = onlyActive L (actOf s e L μ (xOf s i)); cells = μ })
       sound-again i = record { apart = apart-act (xOf s i); low = low-act (xOf s i); tokens = tokens-pile (statements s) 0 (yOf s i) _ T }
 
     woken-low : (L : Lanes) (k m : ℕ) → Below n m → Below n (wokenBy L k m .active)

@@ -11,14 +11,14 @@ use Rattle.warps.specs.Projection.{stacksOf}
 use Rattle.warps.specs.Programs.{Prog}
 use Rattle.kernels.specs.Refusals.{rulingOf}
 use Rattle.machine.specs.Entries.{mostEntries}
-use Rattle.machine.specs.Step.{Warp, next, startOf}
-use Rattle.runs.specs.Run.{Outcome, runFrom}
+use Rattle.machine.specs.Step.{Warp, nextWarp, startOf}
+use Rattle.runs.specs.Run.{finished, RunEnd, runKernel}
 use Rattle.runs.specs.Denotes.{listInLoop, bodiesOf, configOf}
 
 -- a warp that a start reaches by steps
-pub data Reached (s e : List ℕ) (lanes : ℕ) (μ : Mem) : Warp → Type 0 where
-  begun : Reached s e lanes μ (startOf s lanes μ)
-  onward : {w : Warp} → Reached s e lanes μ w → w .stack ≢ [] → Reached s e lanes μ (next s e w)
+pub data ReachedWarp (s e : List ℕ) (lanes : ℕ) (μ : Mem) : Warp → Type 0 where
+  begun : ReachedWarp s e lanes μ (startOf s lanes μ)
+  onward : {w : Warp} → ReachedWarp s e lanes μ w → w .stack ≢ [] → ReachedWarp s e lanes μ (nextWarp s e w)
 
 module _ (s e : List ℕ) (lanes : ℕ) where
   -- neither 17 nor 18
@@ -34,22 +34,26 @@ module _ (s e : List ℕ) (lanes : ℕ) where
   StartsAlike = Admitted → (μ : Mem) → configOf s e (startOf s lanes μ) ≡ initial (bodiesOf s e) lanes 0 μ
 
   abbrev pub StepsByTable2 : Type 0
-  StepsByTable2 = Admitted → (μ : Mem) (w : Warp) → Reached s e lanes μ w → w .stack ≢ [] → Transition (bodiesOf s e) lanes (configOf s e w) (configOf s e (next s e w))
+  StepsByTable2 = Admitted → (μ : Mem) (w : Warp) → ReachedWarp s e lanes μ w → w .stack ≢ [] → Transition (bodiesOf s e) lanes (configOf s e w) (configOf s e (nextWarp s e w))
 
   -- every step from a state that a start reaches is matched by some steps of single threads of Table 4, that end in the same memory and leave each lane what the warp's stack and disable states still hold for it
   abbrev pub StepsMatched : Type 0
-  StepsMatched = Admitted → (μ : Mem) (w : Warp) → Reached s e lanes μ w → w .stack ≢ []
-      → Interleaved (bodiesOf s e) lanes (stacksOf lanes (configOf s e w)) (w .cells) (stacksOf lanes (configOf s e (next s e w))) (next s e w .cells)
+  StepsMatched = Admitted → (μ : Mem) (w : Warp) → ReachedWarp s e lanes μ w → w .stack ≢ []
+      → Interleaved (bodiesOf s e) lanes (stacksOf lanes (configOf s e w)) (w .cells) (stacksOf lanes (configOf s e (nextWarp s e w))) (nextWarp s e w .cells)
 
   -- and so is a whole run
-  pub record Matched (steps : ℕ) (μ : Mem) (o : Outcome) : Type 0 where
-    pub reached : Reached s e lanes μ (o .last)
+  pub record Matched (steps : ℕ) (μ : Mem) (o : RunEnd) : Type 0 where
+    pub reached : ReachedWarp s e lanes μ (o .last)
     pub taken : o .taken ≤ steps
     pub matched : Interleaved (bodiesOf s e) lanes (stacksOf lanes (initial (bodiesOf s e) lanes 0 μ)) μ (stacksOf lanes (configOf s e (o .last))) (o .last .cells)
 
   abbrev pub RunsMatched : Type 0
-  RunsMatched = Admitted → (steps : ℕ) (μ : Mem) → Matched steps μ (runFrom s e lanes steps μ)
+  RunsMatched = Admitted → (steps : ℕ) (μ : Mem) → Matched steps μ (runKernel s e lanes steps μ)
+
+  -- a run that finished has left nothing to any lane: each thread, by itself, has come to its end
+  abbrev pub FinishedAll : Type 0
+  FinishedAll = (steps : ℕ) (μ : Mem) → runKernel s e lanes steps μ .ending ≡ finished → (t : ℕ) → stacksOf lanes (configOf s e (runKernel s e lanes steps μ .last)) t ≡ []
 
   -- the stack keeps its limit: what runs has at most 256 entries after every step
   abbrev pub StaysSmall : Type 0
-  StaysSmall = (steps : ℕ) (μ : Mem) → runFrom s e lanes steps μ .taken ≢ 0 → length (runFrom s e lanes steps μ .last .stack) ≤ mostEntries
+  StaysSmall = (steps : ℕ) (μ : Mem) → runKernel s e lanes steps μ .taken ≢ 0 → length (runKernel s e lanes steps μ .last .stack) ≤ mostEntries

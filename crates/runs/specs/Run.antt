@@ -9,8 +9,8 @@ use Rattle.warps.specs.Language.{Mem}
 use Rattle.kernels.specs.Limits.{cellCount}
 use Rattle.kernels.specs.Refusals.{rulingOf}
 use Rattle.machine.specs.Entries.{mostEntries}
-use Rattle.machine.specs.Step.{Warp, next, startOf}
-use Rattle.runs.specs.declared.Answer.{Answer}
+use Rattle.machine.specs.Step.{Warp, nextWarp, startOf}
+use Rattle.runs.specs.declared.Course.{Course}
 
 -- how a run ends
 abbrev pub finished : ℕ
@@ -23,7 +23,7 @@ abbrev pub wouldOverfill : ℕ
 wouldOverfill = 3
 
 -- how it ended, after how many steps, and where
-pub record Outcome : Type 0 where
+pub record RunEnd : Type 0 where
   pub ending : ℕ
   pub taken : ℕ
   pub last : Warp
@@ -35,39 +35,39 @@ isOver w = eqb (length (w .stack)) 0
 module _ (s e : List ℕ) where
   -- the stack has more than 256 entries, or would have after the next step
   unfoldable pub overfills : Warp → Bool
-  overfills w = ltb mostEntries (length (w .stack)) || ltb mostEntries (length (next s e w .stack))
+  overfills w = ltb mostEntries (length (w .stack)) || ltb mostEntries (length (nextWarp s e w .stack))
 
   -- with `left` steps left and `taken` taken: finished, used up, would overfill, tested in this order; else a step
-  unfoldable pub run : (left taken : ℕ) → Warp → Outcome
-  run zero taken w = record { ending = cond (isOver w) finished usedUp; taken = taken; last = w }
-  run (suc left) taken w =
+  unfoldable pub runWarp : (left taken : ℕ) → Warp → RunEnd
+  runWarp zero taken w = record { ending = cond (isOver w) finished usedUp; taken = taken; last = w }
+  runWarp (suc left) taken w =
       cond (isOver w) (record { ending = finished; taken = taken; last = w })
       (cond (overfills w) (record { ending = wouldOverfill; taken = taken; last = w })
-      (run left (suc taken) (next s e w)))
+      (runWarp left (suc taken) (nextWarp s e w)))
 
-  abbrev pub runFrom : (lanes steps : ℕ) → Mem → Outcome
-  runFrom lanes steps μ = run steps 0 (startOf s lanes μ)
+  abbrev pub runKernel : (lanes steps : ℕ) → Mem → RunEnd
+  runKernel lanes steps μ = runWarp steps 0 (startOf s lanes μ)
 
 -- ---- the door
 
 -- what is told, and the cells
-pub record Told : Type 0 where
-  pub answer : Answer
+pub record KernelTold : Type 0 where
+  pub answer : Course
   pub cells : Mem
 
-abbrev pub refused : (number place : ℕ) → Mem → Told
-refused number place μ = record { answer = record { number = number; place = place; ending = 0; taken = 0 }; cells = μ }
+abbrev pub tellRefusal : (number place : ℕ) → Mem → KernelTold
+tellRefusal number place μ = record { answer = record { number = number; place = place; ending = 0; taken = 0 }; cells = μ }
 
-abbrev pub ran : Outcome → Told
-ran o = record { answer = record { number = 0; place = 0; ending = o .ending; taken = o .taken }; cells = o .last .cells }
+abbrev pub tellRun : RunEnd → KernelTold
+tellRun o = record { answer = record { number = 0; place = 0; ending = o .ending; taken = o .taken }; cells = o .last .cells }
 
 -- fewer than 64 cells are 17 at place 0; then the tables' refusals; then the run
-unfoldable pub toldOf : (s e : List ℕ) (lanes steps : ℕ) → Mem → Told
-toldOf s e lanes steps μ =
-    cond (ltb (length μ) cellCount) (refused 17 0 μ)
-    (cond (eqb (rulingOf s e lanes .number) 0) (ran (runFrom s e lanes steps μ))
-    (refused (rulingOf s e lanes .number) (rulingOf s e lanes .place) μ))
+unfoldable pub kernelTold : (s e : List ℕ) (lanes steps : ℕ) → Mem → KernelTold
+kernelTold s e lanes steps μ =
+    cond (ltb (length μ) cellCount) (tellRefusal 17 0 μ)
+    (cond (eqb (rulingOf s e lanes .number) 0) (tellRun (runKernel s e lanes steps μ))
+    (tellRefusal (rulingOf s e lanes .number) (rulingOf s e lanes .place) μ))
 
 -- what `run_kernel` promises
-abbrev pub RunsKernel : (s e : List ℕ) (lanes steps : ℕ) (μ μ′ : Mem) → Answer → Type 0
-RunsKernel s e lanes steps μ μ′ answer = _≡_ {A = Told} (record { answer = answer; cells = μ′ }) (toldOf s e lanes steps μ)
+abbrev pub RunsKernel : (s e : List ℕ) (lanes steps : ℕ) (μ μ′ : Mem) → Course → Type 0
+RunsKernel s e lanes steps μ μ′ answer = _≡_ {A = KernelTold} (record { answer = answer; cells = μ′ }) (kernelTold s e lanes steps μ)

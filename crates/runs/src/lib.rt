@@ -3,7 +3,7 @@ ghost use mathlib.Core.Path.{_≡_};
 ghost use Prim.Native.Nat.{_≤_};
 ghost use Rattle.kernels.specs.Limits.{mostStatements};
 ghost use Rattle.kernels.specs.Rows.{statements};
-ghost use Rattle.runs.specs.Run.{Told, ran, runFrom, RunsKernel};
+ghost use Rattle.runs.specs.Run.{KernelTold, tellRun, runKernel, RunsKernel};
 use kernels::Kernel;
 use kernels::ruling;
 use machine::Stack;
@@ -22,7 +22,7 @@ impl Ending {
 }
 
 // The number of a refusal with its place, or 0; how the run ended, or 0; and how many steps it took.
-pub struct Answer {
+pub struct Course {
     pub number: u32,
     pub place: usize,
     pub ending: u32,
@@ -30,10 +30,10 @@ pub struct Answer {
 }
 
 // How a run ended.
-fn ended(ending: u32, taken: u64) -> Answer
+fn ended(ending: u32, taken: u64) -> Course
     ensures { λ r. ⌜ r ≡ record { number = 0; place = 0; ending = ending; taken = taken } ⌝ }
 {
-    Answer {
+    Course {
         number: 0,
         place: 0,
         ending: ending,
@@ -42,9 +42,9 @@ fn ended(ending: u32, taken: u64) -> Answer
 }
 
 // A run from the start. A step that would overfill is made, told, and leaves the cells as they were.
-fn run_from(code: &[u32], expressions: &[u32], lanes: u32, cells: &mut [u32], steps: u64) -> Answer
+fn run_from(code: &[u32], expressions: &[u32], lanes: u32, cells: &mut [u32], steps: u64) -> Course
     requires { ⌜ statements (now code) ≤ mostStatements ⌝ }
-    ensures { λ r. ⌜ _≡_ {A = Told} (record { answer = r; cells = now (cells .exit) }) (ran (runFrom (now (code .entry)) (now (expressions .entry)) lanes steps (now (cells .entry)))) ⌝ }
+    ensures { λ r. ⌜ _≡_ {A = KernelTold} (record { answer = r; cells = now (cells .exit) }) (tellRun (runKernel (now (code .entry)) (now (expressions .entry)) lanes steps (now (cells .entry)))) ⌝ }
 {
     let mut stack = [0u64; Stack::ROOM];
     let mut stand = start(code, lanes, &mut stack);
@@ -72,11 +72,11 @@ pub fn run_kernel(
     lanes: u32,
     cells: &mut [u32],
     steps: u64,
-) -> Answer
+) -> Course
     ensures { λ r. ⌜ RunsKernel (now (code .entry)) (now (expressions .entry)) lanes steps (now (cells .entry)) (now (cells .exit)) r ⌝ }
 {
     if cells.len() < Kernel::CELLS {
-        return Answer {
+        return Course {
             number: 17,
             place: 0,
             ending: 0,
@@ -85,7 +85,7 @@ pub fn run_kernel(
     }
     let found = ruling(code, expressions, lanes);
     if found.number != 0 {
-        return Answer {
+        return Course {
             number: found.number,
             place: found.place,
             ending: 0,

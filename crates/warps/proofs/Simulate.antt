@@ -9,7 +9,7 @@ use lib.ListN.{set}
 use Rattle.relation.proofs.Truth.{clashing, pair}
 use Rattle.warps.specs.Language.{Expr, literal, Stm, skip, assign, branch, while, again, break, invoke, return, Bodies, Mem, eval, test}
 use Rattle.warps.specs.Warp.{TokenType, div, sync, brk, call, DisableState, on, broke, returned, Mask, DisableMask, Item, stm, tok, onto, awaits, isOn, enabled, woken, act, excluding, nobody, disable, updated, WarpStep, skip-w, assign-w, if-w, while-w, again-w, break-w, call-w, return-w, token-w, inact-w}
-use Rattle.warps.specs.Threads.{brk-c, call-c, Piece, does, ctx, ahead, callFree, ThreadStep, skip-t, assign-rd, assign-wr, if-tt, if-ff, while-tt, while-ff, again-tt, again-ff, break-t, call-t, return-t, context-t, ThreadStacks, Interleaved}
+use Rattle.warps.specs.Threads.{brk-c, call-c, Piece, does, ctx, stacked, callFree, ThreadStep, skip-t, assign-rd, assign-wr, if-tt, if-ff, while-tt, while-ff, again-tt, again-ff, break-t, call-t, return-t, context-t, ThreadStacks, Interleaved}
 use Rattle.warps.specs.Projection.{running, waiting, modeOf, proj, stacks}
 use Rattle.warps.specs.Programs.{Confined}
 use Rattle.warps.proofs.Shape.{off, inLoop, called, AtBrk, going, joining, Good, need, Inv}
@@ -26,8 +26,8 @@ nor true b e = e
 nor false b e = refl
 
 module _ (t : ℕ) where
-  runs-onto : (S : List Stm) (W : List Item) → proj t (onto S W) running ≡ ahead S (proj t W running)
-  unfolding proj onto ahead
+  runs-onto : (S : List Stm) (W : List Item) → proj t (onto S W) running ≡ stacked S (proj t W running)
+  unfolding proj onto stacked
   runs-onto [] W = refl
   runs-onto (s ∷ S) W = ap (λ (T : List Piece). does s ∷ T) (runs-onto S W)
 
@@ -39,13 +39,13 @@ module _ (t : ℕ) where
   -- ---- what a break leaves
 
   abbrev Unloop : List Piece → List Piece → Type 0
-  Unloop T U = (S : List Stm) × (T ≡ ahead S (ctx brk-c ∷ U))
+  Unloop T U = (S : List Stm) × (T ≡ stacked S (ctx brk-c ∷ U))
 
   to : {T U R : List Piece} → R ≡ U → Unloop T U → Unloop T R
   to {T} e u = subst (Unloop T) (sym e) u
 
   mutual
-    unfolding proj inLoop ahead awaits
+    unfolding proj inLoop stacked awaits
 
     unloop : (W : List Item) → inLoop W ≡ true → Good t W going → Unloop (proj t W running) (proj t W (waiting broke))
     unloop [] i h = clashing i refl
@@ -112,7 +112,7 @@ module _ (t : ℕ) where
         (sym (waits-onto (body b) _ d ∙ taken _ _ (pair _ (awaits d div) (pair _ _ ex ev) (rw (o refl))) ∙ runs-onto (body a) (tok sync Θ ∷ W)))
     if-lane W Θ e a b d μ true false ex ev o =
         goes μ (if-ff ev)
-        (sym (runs-onto (body b) (tok div (act Θ e μ) ∷ onto (body a) (tok sync Θ ∷ W)) ∙ ap (ahead (body b)) (waits-onto (body a) (tok sync Θ ∷ W) on ∙ taken _ _ (pair _ true ex refl))))
+        (sym (runs-onto (body b) (tok div (act Θ e μ) ∷ onto (body a) (tok sync Θ ∷ W)) ∙ ap (stacked (body b)) (waits-onto (body a) (tok sync Θ ∷ W) on ∙ taken _ _ (pair _ true ex refl))))
     if-lane W Θ e a b d μ false v ex ev o =
         still μ (sym (waits-onto (body b) (tok div (act Θ e μ) ∷ onto (body a) (tok sync Θ ∷ W)) d ∙ passed _ _ (off _ (awaits d div) (off _ _ ex)) ∙ waits-onto (body a) (tok sync Θ ∷ W) d ∙ passed _ _ (off _ (awaits d sync) ex)))
 

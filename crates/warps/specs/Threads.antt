@@ -17,9 +17,9 @@ pub data Piece : Type 0 where
   ctx : Context → Piece
 
 -- S T
-unfoldable pub ahead : List Stm → List Piece → List Piece
-ahead [] T = T
-ahead (s ∷ S) T = does s ∷ ahead S T
+unfoldable pub stacked : List Stm → List Piece → List Piece
+stacked [] T = T
+stacked (s ∷ S) T = does s ∷ stacked S T
 
 -- T₋call: no call context in it
 unfoldable pub callFree : List Piece → Bool
@@ -37,18 +37,18 @@ pub data ThreadStep (body : Bodies) (t : ℕ) : List Piece → Mem → List Piec
   -- (assign, wr)  x = v; , μ ⇒ ε, μ{x ↦ v}
   assign-wr : {x v : ℕ} {T : List Piece} {μ : Mem} → ThreadStep body t (does (assign x (literal v)) ∷ T) μ T (set μ x v)
   -- (if)  if (e) S₁ else S₂ ⇒ S₁ where ℰ⟦e⟧ ≠ 0, else S₂
-  if-tt : {e : Expr} {S₁ S₂ : ℕ} {T : List Piece} {μ : Mem} → test e t μ ≡ true → ThreadStep body t (does (branch e S₁ S₂) ∷ T) μ (ahead (body S₁) T) μ
-  if-ff : {e : Expr} {S₁ S₂ : ℕ} {T : List Piece} {μ : Mem} → test e t μ ≡ false → ThreadStep body t (does (branch e S₁ S₂) ∷ T) μ (ahead (body S₂) T) μ
+  if-tt : {e : Expr} {S₁ S₂ : ℕ} {T : List Piece} {μ : Mem} → test e t μ ≡ true → ThreadStep body t (does (branch e S₁ S₂) ∷ T) μ (stacked (body S₁) T) μ
+  if-ff : {e : Expr} {S₁ S₂ : ℕ} {T : List Piece} {μ : Mem} → test e t μ ≡ false → ThreadStep body t (does (branch e S₁ S₂) ∷ T) μ (stacked (body S₂) T) μ
   -- (while)  while (e) S ⇒ S again (e) S brk where ℰ⟦e⟧ ≠ 0, else ε
-  while-tt : {e : Expr} {S : ℕ} {T : List Piece} {μ : Mem} → test e t μ ≡ true → ThreadStep body t (does (while e S) ∷ T) μ (ahead (body S) (does (again e S) ∷ ctx brk-c ∷ T)) μ
+  while-tt : {e : Expr} {S : ℕ} {T : List Piece} {μ : Mem} → test e t μ ≡ true → ThreadStep body t (does (while e S) ∷ T) μ (stacked (body S) (does (again e S) ∷ ctx brk-c ∷ T)) μ
   while-ff : {e : Expr} {S : ℕ} {T : List Piece} {μ : Mem} → test e t μ ≡ false → ThreadStep body t (does (while e S) ∷ T) μ T μ
   -- (while, underlined)  again (e) S ⇒ S again (e) S where ℰ⟦e⟧ ≠ 0, else ε
-  again-tt : {e : Expr} {S : ℕ} {T : List Piece} {μ : Mem} → test e t μ ≡ true → ThreadStep body t (does (again e S) ∷ T) μ (ahead (body S) (does (again e S) ∷ T)) μ
+  again-tt : {e : Expr} {S : ℕ} {T : List Piece} {μ : Mem} → test e t μ ≡ true → ThreadStep body t (does (again e S) ∷ T) μ (stacked (body S) (does (again e S) ∷ T)) μ
   again-ff : {e : Expr} {S : ℕ} {T : List Piece} {μ : Mem} → test e t μ ≡ false → ThreadStep body t (does (again e S) ∷ T) μ T μ
   -- (break)  break; [S] brk ⇒ ε
-  break-t : (S : List Stm) {T : List Piece} {μ : Mem} → ThreadStep body t (does break ∷ ahead S (ctx brk-c ∷ T)) μ T μ
+  break-t : (S : List Stm) {T : List Piece} {μ : Mem} → ThreadStep body t (does break ∷ stacked S (ctx brk-c ∷ T)) μ T μ
   -- (call)  f (); ⇒ φ(f) call
-  call-t : {f : ℕ} {T : List Piece} {μ : Mem} → ThreadStep body t (does (invoke f) ∷ T) μ (ahead (body f) (ctx call-c ∷ T)) μ
+  call-t : {f : ℕ} {T : List Piece} {μ : Mem} → ThreadStep body t (does (invoke f) ∷ T) μ (stacked (body f) (ctx call-c ∷ T)) μ
   -- (return)  return; T₋call call ⇒ ε
   return-t : (U : List Piece) {T : List Piece} {μ : Mem} → callFree U ≡ true → ThreadStep body t (does return ∷ (U ++ (ctx call-c ∷ T))) μ T μ
   -- (context)  c ⇒ ε

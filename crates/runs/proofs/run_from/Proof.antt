@@ -2,14 +2,14 @@ use mathlib.Core.Path.{refl}
 use Prim.Native.Nat.{_-_}
 use native.Mathlib.Omega.{arith}
 use lib.ListN.{length}
-use Rattle.runs.specs.Run.{runFrom, ran}
+use Rattle.runs.specs.Run.{runKernel, tellRun}
 use Rattle.runs.proofs.Running.{Going, going-start, told-by, run-done, run-spent, run-high, run-full, run-on}
 use borrow.Author.Needs.{needs}
 use Rattle.runs.proofs.run_from.Statement.{statement}
 use Rattle.runs.proofs.run_from.Tie as tie
 
 abbrev Inv-loop : tie.InvT-loop
-Inv-loop code expressions lanes cells₀ steps stack₀ stand₀ taken₀ cells stack stand taken = Going code expressions (ran (runFrom code expressions lanes steps cells₀)) (length cells₀) steps stack stand cells taken
+Inv-loop code expressions lanes cells₀ steps stack₀ stand₀ taken₀ cells stack stand taken = Going code expressions (tellRun (runKernel code expressions lanes steps cells₀)) (length cells₀) steps stack stand cells taken
 
 abbrev μ-loop : tie.MeasureT-loop
 μ-loop code expressions lanes cells₀ steps stack₀ stand₀ taken₀ cells stack stand taken = steps - taken

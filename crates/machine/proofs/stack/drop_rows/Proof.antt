@@ -2,13 +2,13 @@ use mathlib.Core.Path.{_≡_, refl}
 use Prim.Native.Nat.{_≤_}
 use native.Mathlib.Omega.{arith}
 use borrow.Author.Needs.{needs}
-use Rattle.machine.specs.Entries.{held, fromToken}
+use Rattle.machine.specs.Entries.{stackIn, fromToken}
 use Rattle.machine.proofs.Held.{drop-row, drop-token, drop-none}
 use Rattle.machine.proofs.stack.drop_rows.Statement.{statement}
 use Rattle.machine.proofs.stack.drop_rows.Tie as tie
 
 abbrev Inv-loop : tie.InvT-loop
-Inv-loop stack height top₀ top = (top ≤ height) × (fromToken (held stack height) ≡ fromToken (held stack top))
+Inv-loop stack height top₀ top = (top ≤ height) × (fromToken (stackIn stack height) ≡ fromToken (stackIn stack top))
 
 abbrev μ-loop : tie.MeasureT-loop
 μ-loop stack height top₀ top = top

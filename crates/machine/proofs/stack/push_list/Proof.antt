@@ -4,13 +4,13 @@ use borrow.Author.Needs.{needs}
 use lib.ListN.{length}
 use Rattle.kernels.specs.Limits.{mostStatements}
 use Rattle.kernels.specs.Rows.{statements}
-use Rattle.machine.specs.Entries.{held}
+use Rattle.machine.specs.Entries.{stackIn}
 use Rattle.machine.proofs.Held.{Piled, piled-start, piled-hit, piled-miss, piled-end}
 use Rattle.machine.proofs.stack.push_list.Statement.{statement}
 use Rattle.machine.proofs.stack.push_list.Tie as tie
 
 abbrev Inv-loop : tie.InvT-loop
-Inv-loop stack₀ height code b i₀ top₀ stack i top = Piled code b (statements code) (length stack₀) height (held stack₀ height) stack i top
+Inv-loop stack₀ height code b i₀ top₀ stack i top = Piled code b (statements code) (length stack₀) height (stackIn stack₀ height) stack i top
 
 abbrev μ-loop : tie.MeasureT-loop
 μ-loop stack₀ height code b i₀ top₀ stack i top = i
