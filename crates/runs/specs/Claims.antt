@@ -50,7 +50,7 @@ module _ (s e : List ℕ) (lanes : ℕ) where
   abbrev pub RunsMatched : Type 0
   RunsMatched = Admitted → (steps : ℕ) (μ : Mem) → Matched steps μ (runKernel s e lanes steps μ)
 
-  -- a run that finished has left nothing to any lane: each thread, by itself, has come to its end
+  -- a run that finished holds nothing more for any lane; so, of an admitted kernel, the threads of `RunsMatched` have come to their ends
   abbrev pub FinishedAll : Type 0
   FinishedAll = (steps : ℕ) (μ : Mem) → runKernel s e lanes steps μ .ending ≡ finished → (t : ℕ) → stacksOf lanes (configOf s e (runKernel s e lanes steps μ .last)) t ≡ []
 
