@@ -1,10 +1,10 @@
 -- The rules of Table 2, as the code comes to them.
 use mathlib.Core.Path.{_≡_, refl, sym, ap, ap₂, _∙_}
 use mathlib.Core.Logic.{by-cases, _≢_}
-use mathlib.Core.Bool.{true, false}
+use mathlib.Core.Bool.{Bool, true, false, cond}
 use mathlib.Core.List.{List, _∷_}
 use Prim.Native.Nat.{ℕ, _-_, _/_, _%_, _^_, _≤_, _<_}
-use native.Mathlib.Decide.{decLt}
+use native.Mathlib.Decide.{decLt, ℕ-discrete}
 use native.Mathlib.Omega.{arith}
 use borrow.Author.Tests.{eq-eqb, ne-eqb}
 use lib.Dec.{eqb}
@@ -15,83 +15,94 @@ use Rattle.lanes.specs.declared.Lanes.{Lanes}
 use Rattle.kernels.specs.Rows.{kindOf, xOf, yOf, zOf, skipKind, assignKind, ifKind, whileKind, breakKind, callKind}
 use Rattle.values.specs.Expressions.{expression, acting}
 use Rattle.machine.specs.Entries.{Entry, row, again, token, againFrom, tokensFrom, entryOf, stackIn, fromToken, listOver}
+use Rattle.machine.specs.Needs.{IsPlain}
 use Rattle.machine.specs.Step.{Warp, actOf, parted, looping, repeating, obey, advance}
 use Rattle.machine.proofs.Held.{held-top, entry-row, entry-again, entry-token}
 
-same : {W₁ W₂ : List Entry} {L₁ L₂ : Lanes} {μ₁ μ₂ : Mem} → W₁ ≡ W₂ → L₁ ≡ L₂ → μ₁ ≡ μ₂ → _≡_ {A = Warp} (record { stack = W₁; lanes = L₁; cells = μ₁ }) (record { stack = W₂; lanes = L₂; cells = μ₂ })
+abbrev warp : List Entry → Lanes → Mem → Warp
+warp W L μ = record { stack = W; lanes = L; cells = μ }
+
+same : {W₁ W₂ : List Entry} {L₁ L₂ : Lanes} {μ₁ μ₂ : Mem} → W₁ ≡ W₂ → L₁ ≡ L₂ → μ₁ ≡ μ₂ → warp W₁ L₁ μ₁ ≡ warp W₂ L₂ μ₂
 same p q r = λ j. record { stack = p j; lanes = q j; cells = r j }
 
 pub by-entry : (s : List ℕ) (x A : ℕ) (W W₁ W₂ : List Entry) → W₁ ≡ token callToken A ∷ W → W₂ ≡ listOver s x W₁ → W₂ ≡ listOver s x (token callToken A ∷ W)
 by-entry s x A W W₁ W₂ p q = q ∙ ap (listOver s x) p
 
+pub acted : (e : List ℕ) (x x′ A a : ℕ) (μ : Mem) → x ≡ x′ → a ≡ acting A (expression e x) μ 32 → a ≡ acting A (expression e x′) μ 32
+acted e x x′ A a μ p q = q ∙ ap (λ (x : ℕ). acting A (expression e x) μ 32) p
+
+pub by-named : (s : List ℕ) (b b′ : ℕ) (W W′ : List Entry) → b ≡ b′ → W′ ≡ listOver s b W → W′ ≡ listOver s b′ W
+by-named s b b′ W W′ p q = q ∙ ap (λ (b : ℕ). listOver s b W) p
+
 -- ---- what several parts leave, put together
-module _ (s e : List ℕ) (i x y : ℕ) (ex : x ≡ xOf s i) (ey : y ≡ yOf s i) (W : List Entry) (L : Lanes) (μ : Mem) (a : ℕ) (ea : a ≡ acting (L .active) (expression e x) μ 32) where
-  acts : a ≡ actOf s e L μ (xOf s i)
-  acts = ea ∙ ap (actOf s e L μ) ex
+module _ (s e : List ℕ) (i : ℕ) (W : List Entry) (L : Lanes) (μ : Mem) (a : ℕ) (ea : a ≡ actOf s e L μ (xOf s i)) where
+  pub by-parting : (W₁ W₂ W₃ W₄ : List Entry) (L′ : Lanes) → W₁ ≡ token syncToken (L .active) ∷ W → W₂ ≡ listOver s (yOf s i) W₁ → W₃ ≡ token divToken a ∷ W₂
+      → W₄ ≡ listOver s (zOf s i) W₃ → L′ ≡ leaving L a → warp W₄ L′ μ ≡ parted s e i W L μ
+  by-parting W₁ W₂ W₃ W₄ L′ p q r t l =
+      same (t ∙ ap (listOver s (zOf s i)) (r ∙ ap₂ (λ (a : ℕ) (R : List Entry). token divToken a ∷ R) ea (q ∙ ap (listOver s (yOf s i)) p))) (l ∙ ap (leaving L) ea) refl
 
-  pub by-parting : (z : ℕ) → z ≡ zOf s i → (W₁ W₂ W₃ W₄ : List Entry) (L′ : Lanes) → W₁ ≡ token syncToken (L .active) ∷ W → W₂ ≡ listOver s y W₁ → W₃ ≡ token divToken a ∷ W₂ → W₄ ≡ listOver s z W₃
-      → L′ ≡ leaving L a → _≡_ {A = Warp} (record { stack = W₄; lanes = L′; cells = μ }) (parted s e i W L μ)
-  by-parting z ez W₁ W₂ W₃ W₄ L′ p q r t l =
-      same
-      (t ∙ ap₂ (listOver s) ez
-      (r ∙ ap₂ (λ (a : ℕ) (R : List Entry). token divToken a ∷ R) acts (q ∙ ap₂ (listOver s) ey p)))
-      (l ∙ ap (leaving L) acts) refl
+  pub by-looping : (W₁ W₂ W₃ : List Entry) (L′ : Lanes) → W₁ ≡ token brkToken (L .active) ∷ W → W₂ ≡ again i ∷ W₁ → W₃ ≡ listOver s (yOf s i) W₂ → L′ ≡ onlyActive L a
+      → warp W₃ L′ μ ≡ looping s e i W L μ
+  by-looping W₁ W₂ W₃ L′ p q r l = same (r ∙ ap (listOver s (yOf s i)) (q ∙ ap (λ (R : List Entry). again i ∷ R) p)) (l ∙ ap (onlyActive L) ea) refl
 
-  pub by-looping : (W₁ W₂ W₃ : List Entry) (L′ : Lanes) → W₁ ≡ token brkToken (L .active) ∷ W → W₂ ≡ again i ∷ W₁ → W₃ ≡ listOver s y W₂ → L′ ≡ onlyActive L a
-      → _≡_ {A = Warp} (record { stack = W₃; lanes = L′; cells = μ }) (looping s e i W L μ)
-  by-looping W₁ W₂ W₃ L′ p q r l = same (r ∙ ap₂ (listOver s) ey (q ∙ ap (λ (R : List Entry). again i ∷ R) p)) (l ∙ ap (onlyActive L) acts) refl
+  pub by-repeating : (W₁ : List Entry) (L′ : Lanes) → W₁ ≡ listOver s (yOf s i) W → L′ ≡ onlyActive L a → warp W₁ L′ μ ≡ repeating s e i W L μ
+  by-repeating W₁ L′ p l = same p (l ∙ ap (onlyActive L) ea) refl
 
-  pub by-repeating : (W₁ : List Entry) (L′ : Lanes) → W₁ ≡ listOver s y W → L′ ≡ onlyActive L a → _≡_ {A = Warp} (record { stack = W₁; lanes = L′; cells = μ }) (repeating s e i W L μ)
-  by-repeating W₁ L′ p l = same (p ∙ ap (λ (y : ℕ). listOver s y W) ey) (l ∙ ap (onlyActive L) acts) refl
+-- ---- break and return
+module _ (k : ℕ) (L L′ : Lanes) where
+  pub breaks : k ≡ breakKind → L′ ≡ brokenBy L → L′ ≡ cond (eqb k breakKind) (brokenBy L) (returnedBy L)
+  breaks p l = l ∙ sym (ap (λ (b : Bool). cond b (brokenBy L) (returnedBy L)) (eq-eqb k breakKind p))
+
+  pub gives-up : k ≢ breakKind → L′ ≡ returnedBy L → L′ ≡ cond (eqb k breakKind) (brokenBy L) (returnedBy L)
+  gives-up p l = l ∙ sym (ap (λ (b : Bool). cond b (brokenBy L) (returnedBy L)) (ne-eqb k breakKind p))
 
 -- ---- a statement, by its kind
-module _ (s e : List ℕ) (i k : ℕ) (ek : k ≡ kindOf s i) (W : List Entry) (L : Lanes) (μ : Mem) where
-  abbrev Obeys : List Entry → Lanes → Mem → Type 0
-  Obeys W′ L′ μ′ = _≡_ {A = Warp} (record { stack = W′; lanes = L′; cells = μ′ }) (obey s e i W L μ)
-
+module _ (s : List ℕ) (i : ℕ) {k : ℕ} (ek : k ≡ kindOf s i) where
   is : (n : ℕ) → k ≡ n → eqb (kindOf s i) n ≡ true
   is n p = eq-eqb (kindOf s i) n (sym ek ∙ p)
 
   isnt : (n : ℕ) → k ≢ n → eqb (kindOf s i) n ≡ false
   isnt n p = ne-eqb (kindOf s i) n (λ q. p (ek ∙ q))
 
-  pub by-skip : k ≡ skipKind → Obeys W L μ
+module _ (s e : List ℕ) (i k : ℕ) (ek : k ≡ kindOf s i) (W : List Entry) (L : Lanes) (μ : Mem) where
+  pub by-assign : (μ′ : Mem) → k ≡ assignKind → μ′ ≡ set μ (xOf s i) (eval (expression e (yOf s i)) (highestOf 32 (L .active)) μ) → warp W L μ′ ≡ obey s e i W L μ
   unfolding obey
-  by-skip p = sym (rw (is skipKind p))
+  by-assign μ′ p q = same refl refl q ∙ sym (rw (isnt s i ek skipKind (λ z. omega arith), is s i ek assignKind p))
+
+  pub by-if : (w : Warp) → k ≡ ifKind → w ≡ parted s e i W L μ → w ≡ obey s e i W L μ
+  unfolding obey
+  by-if w p q = q ∙ sym (rw (isnt s i ek skipKind (λ z. omega arith), isnt s i ek assignKind (λ z. omega arith), is s i ek ifKind p))
+
+  pub by-while : (w : Warp) → k ≡ whileKind → w ≡ looping s e i W L μ → w ≡ obey s e i W L μ
+  unfolding obey
+  by-while w p q = q ∙ sym (rw (isnt s i ek skipKind (λ z. omega arith), isnt s i ek assignKind (λ z. omega arith), isnt s i ek ifKind (λ z. omega arith), is s i ek whileKind p))
+
+-- a statement without an expression
+module _ (s : List ℕ) (i k : ℕ) (P : IsPlain s i k) (W : List Entry) (L : Lanes) (e : List ℕ) (μ : Mem) where
+  pub by-skip : k ≡ skipKind → warp W L μ ≡ obey s e i W L μ
+  unfolding obey
+  by-skip p = sym (rw (is s i (P .is) skipKind p))
 
   module _ (n₀ : k ≢ skipKind) where
-    pub by-assign : (μ′ : Mem) → k ≡ assignKind → μ′ ≡ set μ (xOf s i) (eval (expression e (yOf s i)) (highestOf 32 (L .active)) μ) → Obeys W L μ′
+    left-over : obey s e i W L μ
+        ≡ cond (eqb (kindOf s i) breakKind) (warp (fromToken W) (brokenBy L) μ)
+        (cond (eqb (kindOf s i) callKind) (warp (listOver s (xOf s i) (token callToken (L .active) ∷ W)) L μ) (warp (fromToken W) (returnedBy L) μ))
     unfolding obey
-    by-assign μ′ p q = same refl refl q ∙ sym (rw (isnt skipKind n₀, is assignKind p))
+    left-over = rw (isnt s i (P .is) skipKind n₀, isnt s i (P .is) assignKind (P .no-assignment), isnt s i (P .is) ifKind (P .no-if), isnt s i (P .is) whileKind (P .no-while))
 
-    module _ (n₁ : k ≢ assignKind) where
-      pub by-if : (w : Warp) → k ≡ ifKind → w ≡ parted s e i W L μ → w ≡ obey s e i W L μ
-      unfolding obey
-      by-if w p q = q ∙ sym (rw (isnt skipKind n₀, isnt assignKind n₁, is ifKind p))
+    pub by-call : (x : ℕ) (W′ : List Entry) → k ≡ callKind → x ≡ xOf s i → W′ ≡ listOver s x (token callToken (L .active) ∷ W) → warp W′ L μ ≡ obey s e i W L μ
+    by-call x W′ p ex w =
+        same (w ∙ ap (λ (x : ℕ). listOver s x (token callToken (L .active) ∷ W)) ex) refl refl
+        ∙ sym (left-over ∙ rw (isnt s i (P .is) breakKind (λ q. omega arith), is s i (P .is) callKind p))
 
-      module _ (n₂ : k ≢ ifKind) where
-        pub by-while : (w : Warp) → k ≡ whileKind → w ≡ looping s e i W L μ → w ≡ obey s e i W L μ
-        unfolding obey
-        by-while w p q = q ∙ sym (rw (isnt skipKind n₀, isnt assignKind n₁, isnt ifKind n₂, is whileKind p))
-
-        module _ (n₃ : k ≢ whileKind) where
-          pub by-call : (x : ℕ) (W′ : List Entry) → k ≡ callKind → x ≡ xOf s i → W′ ≡ listOver s x (token callToken (L .active) ∷ W) → Obeys W′ L μ
-          unfolding obey
-          by-call x W′ p ex w =
-              same (w ∙ ap (λ (x : ℕ). listOver s x (token callToken (L .active) ∷ W)) ex) refl refl
-              ∙ sym (rw (isnt skipKind n₀, isnt assignKind n₁, isnt ifKind n₂, isnt whileKind n₃, isnt breakKind (λ q. omega arith), is callKind p))
-
-          pub by-break : (W′ : List Entry) (L′ : Lanes) → k ≡ breakKind → W′ ≡ fromToken W → L′ ≡ brokenBy L → Obeys W′ L′ μ
-          unfolding obey
-          by-break W′ L′ p w l = same w l refl ∙ sym (rw (isnt skipKind n₀, isnt assignKind n₁, isnt ifKind n₂, isnt whileKind n₃, is breakKind p))
-
-          pub by-return : (W′ : List Entry) (L′ : Lanes) → k ≢ breakKind → k ≢ callKind → W′ ≡ fromToken W → L′ ≡ returnedBy L → Obeys W′ L′ μ
-          unfolding obey
-          by-return W′ L′ n₄ n₅ w l =
-              same w l refl ∙ sym (rw (isnt skipKind n₀, isnt assignKind n₁, isnt ifKind n₂, isnt whileKind n₃, isnt breakKind n₄, isnt callKind n₅))
+    pub by-leaving : (W′ : List Entry) (L′ : Lanes) → k ≢ callKind → W′ ≡ fromToken W → L′ ≡ cond (eqb k breakKind) (brokenBy L) (returnedBy L) → warp W′ L′ μ ≡ obey s e i W L μ
+    by-leaving W′ L′ n w l =
+        by-cases (ℕ-discrete k breakKind)
+        (λ (p : k ≡ breakKind). same w (l ∙ ap (λ (b : Bool). cond b (brokenBy L) (returnedBy L)) (eq-eqb k breakKind p)) refl ∙ sym (left-over ∙ rw (is s i (P .is) breakKind p)))
+        (λ (p : k ≢ breakKind). same w (l ∙ ap (λ (b : Bool). cond b (brokenBy L) (returnedBy L)) (ne-eqb k breakKind p)) refl ∙ sym (left-over ∙ rw (isnt s i (P .is) breakKind p, isnt s i (P .is) callKind n)))
 
 -- ---- the whole step, by the topmost entry
-pub step-none : (s e a : List ℕ) (n : ℕ) (L : Lanes) (μ : Mem) → n ≡ 0 → _≡_ {A = Warp} (record { stack = stackIn a n; lanes = L; cells = μ }) (advance s e (stackIn a n) L μ)
+pub step-none : (s e a : List ℕ) (n : ℕ) (L : Lanes) (μ : Mem) → n ≡ 0 → warp (stackIn a n) L μ ≡ advance s e (stackIn a n) L μ
 unfolding advance stackIn
 step-none s e a n L μ h = rw h
 
@@ -100,7 +111,7 @@ module _ (s e a : List ℕ) (n : ℕ) (L : Lanes) (μ : Mem) (h : n ≢ 0) where
   entry = getD a (n - 1) 0
 
   abbrev Advances : List Entry → Lanes → Mem → Type 0
-  Advances W′ L′ μ′ = _≡_ {A = Warp} (record { stack = W′; lanes = L′; cells = μ′ }) (advance s e (stackIn a n) L μ)
+  Advances W′ L′ μ′ = warp W′ L′ μ′ ≡ advance s e (stackIn a n) L μ
 
   on-top : {x : Entry} → entryOf entry ≡ x → stackIn a n ≡ x ∷ stackIn a (n - 1)
   on-top q = held-top a n (omega arith) ∙ ap (λ (x : Entry). x ∷ stackIn a (n - 1)) q

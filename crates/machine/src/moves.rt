@@ -1,5 +1,8 @@
 // The start and the step, for any numbers in any room.
 ghost use mathlib.Core.Path.{_≡_};
+ghost use Prim.Native.Nat.{_-_, _/_, _%_, _^_, _≤_};
+ghost use Rattle.lanes.specs.Words.{wokenBy};
+ghost use Rattle.machine.specs.Entries.{tokensFrom};
 ghost use Rattle.machine.specs.Needs.{CanStep};
 ghost use Rattle.machine.specs.Step.{nextWarp, warpOf, workable, StartsWarp, StepsWarp};
 use crate::rules::enter;
@@ -51,6 +54,15 @@ pub fn start(code: &[u32], lanes: u32, stack: &mut [u64]) -> Stand
     }
 }
 
+// A token comes off the stack, as it stands in its room.
+fn take_off(lanes: Lanes, entry: u64) -> Lanes
+    requires { ⌜ tokensFrom ≤ entry ⌝ }
+    ensures { λ r. ⌜ r ≡ wokenBy lanes ((entry - tokensFrom) % 4) ((entry - tokensFrom) / 4 % 2 ^ 32) ⌝ }
+{
+    let rest = entry - Stack::TOKENS;
+    lanes.wake((rest % 4) as u32, (rest / 4 % 4294967296) as u32)
+}
+
 // One step, by the topmost entry.
 fn move_on(
     code: &[u32],
@@ -63,16 +75,14 @@ fn move_on(
     ensures { λ r. ⌜ warpOf (now (stack .exit)) r (now (cells .exit))
         ≡ nextWarp (now (code .entry)) (now (expressions .entry)) (warpOf (now (stack .entry)) stand (now (cells .entry))) ⌝ }
 {
-    let height = stand.height;
     let lanes = stand.lanes;
-    if height == 0 {
+    if stand.height == 0 {
         return stand;
     }
-    let under = height - 1;
+    let under = stand.height - 1;
     let entry = stack[under];
     if entry >= Stack::TOKENS {
-        let rest = entry - Stack::TOKENS;
-        let lanes = lanes.wake((rest % 4) as u32, (rest / 4 % 4294967296) as u32);
+        let lanes = take_off(lanes, entry);
         return Stand {
             height: under,
             lanes: lanes,
@@ -83,11 +93,18 @@ fn move_on(
         return Stand { height, lanes };
     }
     if entry < Stack::AGAIN {
-        let i = entry as usize;
-        return obey_row(code, expressions, i, lanes, stack, under, cells);
+        return obey_row(
+            code,
+            expressions,
+            entry as usize,
+            lanes,
+            stack,
+            under,
+            cells,
+        );
     }
     let i = (entry - Stack::AGAIN) as usize;
-    repeat(code, expressions, i, lanes, stack, height, cells)
+    repeat(code, expressions, i, lanes, stack, stand.height, cells)
 }
 
 // One step of a warp, in place. What cannot be stepped stays as it is.

@@ -2,11 +2,12 @@
 ghost use mathlib.Core.Path.{_≡_};
 ghost use mathlib.Core.List.{_∷_};
 ghost use Prim.Native.Nat.{_+_, _≤_, _<_};
-ghost use lib.ListN.{length};
+ghost use lib.ListN.{length, getD};
 ghost use Rattle.kernels.specs.Limits.{mostStatements};
 ghost use Rattle.kernels.specs.Rows.{statements};
 ghost use Rattle.machine.specs.Entries.{token, again, tokenNumber, entryOf, stackIn, fromToken, listOver};
 use lanes::Lanes;
+use values::at;
 
 pub struct Stack;
 
@@ -73,6 +74,14 @@ pub(crate) fn push_list(stack: &mut [u64], height: usize, code: &[u32], b: u32) 
         }
     }
     top
+}
+
+// The rows of the list whose number stands at a place of the table.
+pub(crate) fn push_named(stack: &mut [u64], height: usize, code: &[u32], place: usize) -> usize
+    requires { ⌜ (height + 256 ≤ length (now stack)) × (statements (now code) ≤ mostStatements) ⌝ }
+    ensures { λ r. ⌜ (stackIn (now (stack .exit)) r ≡ listOver (now (code .entry)) (getD (now (code .entry)) place 0) (stackIn (now (stack .entry)) height)) × (r ≤ height + 256) ⌝ }
+{
+    push_list(stack, height, code, at(code, place))
 }
 
 // The height without the statements above the topmost token.

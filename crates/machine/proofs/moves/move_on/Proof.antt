@@ -15,17 +15,11 @@ mul-entry c = search needs
 slice-read-entry : tie.Need-slice-read-entry
 slice-read-entry c = search needs
 
-cast-wake : tie.Need-cast-wake
-cast-wake c = search needs
-
-cast-wake-2 : tie.Need-cast-wake-2
-cast-wake-2 c = search needs
-
-wake-requires : tie.Need-wake-requires
-wake-requires c κs = search needs
+take-off-requires : tie.Need-take-off-requires
+take-off-requires c κs = search needs
 
 returns-2 : tie.Need-returns-2
-returns-2 c = step-token _ _ _ _ _ _ (c .before .before .before .if1 .left) _ (c .before .if2 .taken) (c .wake .ensures)
+returns-2 c = step-token _ _ _ _ _ _ (c .before .before .before .before .if1 .left) _ (c .before .if2 .taken) (c .take-off .ensures)
 
 drop-rows-requires : tie.Need-drop-rows-requires
 drop-rows-requires c κs = search needs
@@ -34,7 +28,7 @@ same-length : tie.Need-same-length
 same-length c = search needs
 
 returns-3 : tie.Need-returns-3
-returns-3 c = step-inact _ _ _ _ _ _ (c .before .before .before .before .before .before .if1 .left) _ (c .before .before .before .before .if2 .left) (c .before .before .if3 .taken) (c .drop-rows .ensures .0)
+returns-3 c = step-inact _ _ _ _ _ _ (c .before .before .before .before .before .before .before .if1 .left) _ (c .before .before .before .before .if2 .left) (c .before .before .if3 .taken) (c .drop-rows .ensures .0)
 
 obey-row-requires : tie.Need-obey-row-requires
 obey-row-requires c κs = search needs
@@ -46,7 +40,7 @@ same-length-3 : tie.Need-same-length-3
 same-length-3 c = search needs
 
 returns-4 : tie.Need-returns-4
-returns-4 c = step-row _ _ _ _ _ _ (c .before .before .before .before .before .before .before .before .before .before .before .before .if1 .left) _ (c .before .before .before .before .before .before .before .if4 .taken) (c .before .before .before .before .before .before .before .before .if3 .left) (c .before .before .before .before .obey-row .ensures)
+returns-4 c = step-row _ _ _ _ _ _ (c .before .before .before .before .before .before .before .before .before .before .before .before .before .if1 .left) _ (c .before .before .before .before .before .before .before .if4 .taken) (c .before .before .before .before .before .before .before .before .if3 .left) (c .before .before .before .before .obey-row .ensures)
 
 repeat-requires : tie.Need-repeat-requires
 repeat-requires c κs = search needs
@@ -58,7 +52,7 @@ same-length-5 : tie.Need-same-length-5
 same-length-5 c = search needs
 
 returns-5 : tie.Need-returns-5
-returns-5 c = step-again _ _ _ _ _ _ (c .before .before .before .before .before .before .before .before .before .before .if1 .left) _ (c .before .before .before .before .before .if4 .left) (c .before .before .before .before .before .before .before .before .if2 .left) (c .before .before .before .before .before .before .if3 .left) (c .before .before .repeat .ensures)
+returns-5 c = step-again _ _ _ _ _ _ (c .before .before .before .before .before .before .before .before .before .before .before .if1 .left) _ (c .before .before .before .before .before .if4 .left) (c .before .before .before .before .before .before .before .before .if2 .left) (c .before .before .before .before .before .before .if3 .left) (c .before .before .repeat .ensures)
 
 pub move-on-spec : {M : Type 1} → statement M
 move-on-spec =
@@ -68,9 +62,7 @@ move-on-spec =
     sub-under
     mul-entry
     slice-read-entry
-    cast-wake
-    cast-wake-2
-    wake-requires
+    take-off-requires
     returns-2
     drop-rows-requires
     same-length
