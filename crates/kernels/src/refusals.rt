@@ -16,15 +16,18 @@ fn bad_length(row: usize, most: usize, numbers: usize) -> bool
     (numbers % row != 0) | (most < numbers / row)
 }
 
-// Refusal 17 where no statement is concerned.
+// Refusal 17 where no statement is concerned. Tables over the limit are not looked into, however long they are.
 fn bad_tables(s: &[u32], e: &[u32], lanes: u32) -> bool
     ensures { λ r. ⌜ r ≡ badTables (now (s .entry)) (now (e .entry)) lanes ⌝ }
 {
-    (lanes == 0)
+    if (lanes == 0)
         | (Kernel::LANES < lanes)
         | bad_length(5, Kernel::STATEMENTS, s.len())
         | bad_length(3, Kernel::EXPRESSIONS, e.len())
-        | some_bad_expression(e)
+    {
+        return true;
+    }
+    some_bad_expression(e)
 }
 
 // Refusal 17 or 18 of a kernel's tables, with its place, or 0 where they pass.

@@ -1,10 +1,10 @@
 -- The rules of Table 2, as the code comes to them.
 use mathlib.Core.Path.{_≡_, refl, sym, ap, ap₂, _∙_}
 use mathlib.Core.Logic.{by-cases, _≢_}
-use mathlib.Core.Bool.{Bool, true, false, cond}
+use mathlib.Core.Bool.{true, false, cond}
 use mathlib.Core.List.{List, _∷_}
 use Prim.Native.Nat.{ℕ, _-_, _/_, _%_, _^_, _≤_, _<_}
-use native.Mathlib.Decide.{decLt, ℕ-discrete}
+use native.Mathlib.Decide.{decLt}
 use native.Mathlib.Omega.{arith}
 use borrow.Author.Tests.{eq-eqb, ne-eqb}
 use lib.Dec.{eqb}
@@ -15,7 +15,6 @@ use Rattle.lanes.specs.declared.Lanes.{Lanes}
 use Rattle.kernels.specs.Rows.{kindOf, xOf, yOf, zOf, skipKind, assignKind, ifKind, whileKind, breakKind, callKind}
 use Rattle.values.specs.Expressions.{expression, acting}
 use Rattle.machine.specs.Entries.{Entry, row, again, token, againFrom, tokensFrom, entryOf, stackIn, fromToken, listOver}
-use Rattle.machine.specs.Needs.{IsPlain}
 use Rattle.machine.specs.Step.{Warp, actOf, parted, looping, repeating, obey, advance}
 use Rattle.machine.proofs.Held.{held-top, entry-row, entry-again, entry-token}
 
@@ -41,65 +40,55 @@ module _ (s e : List ℕ) (i : ℕ) (W : List Entry) (L : Lanes) (μ : Mem) (a :
   by-parting W₁ W₂ W₃ W₄ L′ p q r t l =
       same (t ∙ ap (listOver s (zOf s i)) (r ∙ ap₂ (λ (a : ℕ) (R : List Entry). token divToken a ∷ R) ea (q ∙ ap (listOver s (yOf s i)) p))) (l ∙ ap (leaving L) ea) refl
 
-  pub by-looping : (W₁ W₂ W₃ : List Entry) (L′ : Lanes) → W₁ ≡ token brkToken (L .active) ∷ W → W₂ ≡ again i ∷ W₁ → W₃ ≡ listOver s (yOf s i) W₂ → L′ ≡ onlyActive L a
-      → warp W₃ L′ μ ≡ looping s e i W L μ
-  by-looping W₁ W₂ W₃ L′ p q r l = same (r ∙ ap (listOver s (yOf s i)) (q ∙ ap (λ (R : List Entry). again i ∷ R) p)) (l ∙ ap (onlyActive L) ea) refl
-
   pub by-repeating : (W₁ : List Entry) (L′ : Lanes) → W₁ ≡ listOver s (yOf s i) W → L′ ≡ onlyActive L a → warp W₁ L′ μ ≡ repeating s e i W L μ
   by-repeating W₁ L′ p l = same p (l ∙ ap (onlyActive L) ea) refl
 
--- ---- break and return
-module _ (k : ℕ) (L L′ : Lanes) where
-  pub breaks : k ≡ breakKind → L′ ≡ brokenBy L → L′ ≡ cond (eqb k breakKind) (brokenBy L) (returnedBy L)
-  breaks p l = l ∙ sym (ap (λ (b : Bool). cond b (brokenBy L) (returnedBy L)) (eq-eqb k breakKind p))
-
-  pub gives-up : k ≢ breakKind → L′ ≡ returnedBy L → L′ ≡ cond (eqb k breakKind) (brokenBy L) (returnedBy L)
-  gives-up p l = l ∙ sym (ap (λ (b : Bool). cond b (brokenBy L) (returnedBy L)) (ne-eqb k breakKind p))
+-- a while that has begun lies over its brk token
+pub by-looping : (s e : List ℕ) (i : ℕ) (W : List Entry) (L : Lanes) (μ : Mem) (W₁ W₂ : List Entry) (w : Warp) → W₁ ≡ token brkToken (L .active) ∷ W → W₂ ≡ again i ∷ W₁ → w ≡ repeating s e i W₂ L μ
+    → w ≡ looping s e i W L μ
+by-looping s e i W L μ W₁ W₂ w p q r = r ∙ ap (λ (R : List Entry). repeating s e i R L μ) (q ∙ ap (λ (R : List Entry). again i ∷ R) p)
 
 -- ---- a statement, by its kind
-module _ (s : List ℕ) (i : ℕ) {k : ℕ} (ek : k ≡ kindOf s i) where
+module _ (s e : List ℕ) (i k : ℕ) (ek : k ≡ kindOf s i) (W : List Entry) (L : Lanes) (μ : Mem) where
   is : (n : ℕ) → k ≡ n → eqb (kindOf s i) n ≡ true
   is n p = eq-eqb (kindOf s i) n (sym ek ∙ p)
 
   isnt : (n : ℕ) → k ≢ n → eqb (kindOf s i) n ≡ false
   isnt n p = ne-eqb (kindOf s i) n (λ q. p (ek ∙ q))
 
-module _ (s e : List ℕ) (i k : ℕ) (ek : k ≡ kindOf s i) (W : List Entry) (L : Lanes) (μ : Mem) where
+  pub by-skip : k ≡ skipKind → warp W L μ ≡ obey s e i W L μ
+  unfolding obey
+  by-skip p = sym (rw (is skipKind p))
+
   pub by-assign : (μ′ : Mem) → k ≡ assignKind → μ′ ≡ set μ (xOf s i) (eval (expression e (yOf s i)) (highestOf 32 (L .active)) μ) → warp W L μ′ ≡ obey s e i W L μ
   unfolding obey
-  by-assign μ′ p q = same refl refl q ∙ sym (rw (isnt s i ek skipKind (λ z. omega arith), is s i ek assignKind p))
+  by-assign μ′ p q = same refl refl q ∙ sym (rw (isnt skipKind (λ z. omega arith), is assignKind p))
 
   pub by-if : (w : Warp) → k ≡ ifKind → w ≡ parted s e i W L μ → w ≡ obey s e i W L μ
   unfolding obey
-  by-if w p q = q ∙ sym (rw (isnt s i ek skipKind (λ z. omega arith), isnt s i ek assignKind (λ z. omega arith), is s i ek ifKind p))
+  by-if w p q = q ∙ sym (rw (isnt skipKind (λ z. omega arith), isnt assignKind (λ z. omega arith), is ifKind p))
 
   pub by-while : (w : Warp) → k ≡ whileKind → w ≡ looping s e i W L μ → w ≡ obey s e i W L μ
   unfolding obey
-  by-while w p q = q ∙ sym (rw (isnt s i ek skipKind (λ z. omega arith), isnt s i ek assignKind (λ z. omega arith), isnt s i ek ifKind (λ z. omega arith), is s i ek whileKind p))
+  by-while w p q = q ∙ sym (rw (isnt skipKind (λ z. omega arith), isnt assignKind (λ z. omega arith), isnt ifKind (λ z. omega arith), is whileKind p))
 
--- a statement without an expression
-module _ (s : List ℕ) (i k : ℕ) (P : IsPlain s i k) (W : List Entry) (L : Lanes) (e : List ℕ) (μ : Mem) where
-  pub by-skip : k ≡ skipKind → warp W L μ ≡ obey s e i W L μ
-  unfolding obey
-  by-skip p = sym (rw (is s i (P .is) skipKind p))
-
-  module _ (n₀ : k ≢ skipKind) where
+  module _ (n₀ : k ≢ skipKind) (n₁ : k ≢ assignKind) (n₂ : k ≢ ifKind) (n₃ : k ≢ whileKind) where
     left-over : obey s e i W L μ
         ≡ cond (eqb (kindOf s i) breakKind) (warp (fromToken W) (brokenBy L) μ)
         (cond (eqb (kindOf s i) callKind) (warp (listOver s (xOf s i) (token callToken (L .active) ∷ W)) L μ) (warp (fromToken W) (returnedBy L) μ))
     unfolding obey
-    left-over = rw (isnt s i (P .is) skipKind n₀, isnt s i (P .is) assignKind (P .no-assignment), isnt s i (P .is) ifKind (P .no-if), isnt s i (P .is) whileKind (P .no-while))
+    left-over = rw (isnt skipKind n₀, isnt assignKind n₁, isnt ifKind n₂, isnt whileKind n₃)
 
     pub by-call : (x : ℕ) (W′ : List Entry) → k ≡ callKind → x ≡ xOf s i → W′ ≡ listOver s x (token callToken (L .active) ∷ W) → warp W′ L μ ≡ obey s e i W L μ
     by-call x W′ p ex w =
         same (w ∙ ap (λ (x : ℕ). listOver s x (token callToken (L .active) ∷ W)) ex) refl refl
-        ∙ sym (left-over ∙ rw (isnt s i (P .is) breakKind (λ q. omega arith), is s i (P .is) callKind p))
+        ∙ sym (left-over ∙ rw (isnt breakKind (λ q. omega arith), is callKind p))
 
-    pub by-leaving : (W′ : List Entry) (L′ : Lanes) → k ≢ callKind → W′ ≡ fromToken W → L′ ≡ cond (eqb k breakKind) (brokenBy L) (returnedBy L) → warp W′ L′ μ ≡ obey s e i W L μ
-    by-leaving W′ L′ n w l =
-        by-cases (ℕ-discrete k breakKind)
-        (λ (p : k ≡ breakKind). same w (l ∙ ap (λ (b : Bool). cond b (brokenBy L) (returnedBy L)) (eq-eqb k breakKind p)) refl ∙ sym (left-over ∙ rw (is s i (P .is) breakKind p)))
-        (λ (p : k ≢ breakKind). same w (l ∙ ap (λ (b : Bool). cond b (brokenBy L) (returnedBy L)) (ne-eqb k breakKind p)) refl ∙ sym (left-over ∙ rw (isnt s i (P .is) breakKind p, isnt s i (P .is) callKind n)))
+    pub by-break : (W′ : List Entry) (L′ : Lanes) → k ≡ breakKind → W′ ≡ fromToken W → L′ ≡ brokenBy L → warp W′ L′ μ ≡ obey s e i W L μ
+    by-break W′ L′ p w l = same w l refl ∙ sym (left-over ∙ rw (is breakKind p))
+
+    pub by-return : (W′ : List Entry) (L′ : Lanes) → k ≢ breakKind → k ≢ callKind → W′ ≡ fromToken W → L′ ≡ returnedBy L → warp W′ L′ μ ≡ obey s e i W L μ
+    by-return W′ L′ n₄ n₅ w l = same w l refl ∙ sym (left-over ∙ rw (isnt breakKind n₄, isnt callKind n₅))
 
 -- ---- the whole step, by the topmost entry
 pub step-none : (s e a : List ℕ) (n : ℕ) (L : Lanes) (μ : Mem) → n ≡ 0 → warp (stackIn a n) L μ ≡ advance s e (stackIn a n) L μ

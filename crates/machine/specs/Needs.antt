@@ -1,11 +1,9 @@
 -- What the parts of a step ask for.
-use mathlib.Core.Path.{_≡_}
-use mathlib.Core.Logic.{_≢_}
 use Prim.Native.Nat.{ℕ, _≤_}
 use mathlib.Core.List.{List}
 use lib.ListN.{length}
 use Rattle.kernels.specs.Limits.{mostStatements}
-use Rattle.kernels.specs.Rows.{statements, kindOf, assignKind, ifKind, whileKind}
+use Rattle.kernels.specs.Rows.{statements}
 use Rattle.machine.specs.Entries.{mostEntries, stackRoom}
 
 -- at most 256 statements, a stack's room, and a stack in it that is not over its limit
@@ -13,10 +11,3 @@ pub record CanStep (s room : List ℕ) (height : ℕ) : Type 0 where
   pub few : statements s ≤ mostStatements
   pub wide : stackRoom ≤ length room
   pub low : height ≤ mostEntries
-
--- row i is of this kind, and no statement with an expression
-pub record IsPlain (s : List ℕ) (i kind : ℕ) : Type 0 where
-  pub is : kind ≡ kindOf s i
-  pub no-assignment : kind ≢ assignKind
-  pub no-if : kind ≢ ifKind
-  pub no-while : kind ≢ whileKind

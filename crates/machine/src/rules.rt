@@ -1,16 +1,15 @@
 // The rules of Table 2 for a statement, with some lane active; the stack is what lies under it.
 ghost use mathlib.Core.Path.{_≡_};
-ghost use mathlib.Core.Bool.{cond};
-ghost use mathlib.Core.List.{List, _∷_};
-ghost use Prim.Native.Nat.{ℕ, _≤_, _<_};
-ghost use lib.Dec.{eqb};
+ghost use mathlib.Core.List.{_∷_};
+ghost use Prim.Native.Nat.{_+_, _≤_, _<_};
 ghost use lib.ListN.{length, set};
 ghost use Rattle.warps.specs.Language.{eval};
-ghost use Rattle.lanes.specs.Words.{callToken, brokenBy, returnedBy, highestOf};
-ghost use Rattle.kernels.specs.Rows.{xOf, yOf, breakKind};
+ghost use Rattle.lanes.specs.Words.{callToken, highestOf};
+ghost use Rattle.kernels.specs.Limits.{mostStatements};
+ghost use Rattle.kernels.specs.Rows.{statements, xOf, yOf};
 ghost use Rattle.values.specs.Expressions.{expression, acting};
-ghost use Rattle.machine.specs.Entries.{token, stackIn, fromToken, listOver};
-ghost use Rattle.machine.specs.Needs.{CanStep, IsPlain};
+ghost use Rattle.machine.specs.Entries.{token, stackIn, listOver};
+ghost use Rattle.machine.specs.Needs.{CanStep};
 ghost use Rattle.machine.specs.Step.{parted, looping, repeating, obey, warpOf};
 use crate::stack::Stand;
 use crate::stack::drop_rows;
@@ -71,7 +70,27 @@ fn part(
     Stand { height, lanes }
 }
 
-// (while): the body, the loop once more, a brk token.
+// (while, underlined): the body once more, over the loop, which stays on top.
+pub(crate) fn repeat(
+    code: &[u32],
+    expressions: &[u32],
+    i: usize,
+    lanes: Lanes,
+    stack: &mut [u64],
+    height: usize,
+    cells: &[u32],
+) -> Stand
+    requires { ⌜ (height + 256 ≤ length (now stack)) × (statements (now code) ≤ mostStatements) × (i < 256) ⌝ }
+    ensures { λ r. ⌜ warpOf (now (stack .exit)) r (now (cells .entry))
+        ≡ repeating (now (code .entry)) (now (expressions .entry)) i (stackIn (now (stack .entry)) height) lanes (now (cells .entry)) ⌝ }
+{
+    let acting = acting_of(code, expressions, i, lanes.active, cells);
+    let height = push_named(stack, height, code, 5 * i + 3);
+    let lanes = lanes.only(acting);
+    Stand { height, lanes }
+}
+
+// (while): a brk token, and over it the loop, which has begun, with its body.
 fn enter_loop(
     code: &[u32],
     expressions: &[u32],
@@ -85,12 +104,9 @@ fn enter_loop(
     ensures { λ r. ⌜ warpOf (now (stack .exit)) r (now (cells .entry))
         ≡ looping (now (code .entry)) (now (expressions .entry)) i (stackIn (now (stack .entry)) height) lanes (now (cells .entry)) ⌝ }
 {
-    let acting = acting_of(code, expressions, i, lanes.active, cells);
     let left = put_token(stack, height, TokenKind::BRK, lanes.active);
     let begun = put_again(stack, left, i);
-    let height = push_named(stack, begun, code, 5 * i + 3);
-    let lanes = lanes.only(acting);
-    Stand { height, lanes }
+    repeat(code, expressions, i, lanes, stack, begun, cells)
 }
 
 // (call): the function's list, a call token.
@@ -100,43 +116,6 @@ pub(crate) fn enter(code: &[u32], x: u32, active: u32, stack: &mut [u64], height
 {
     let back = put_token(stack, height, TokenKind::CALL, active);
     push_list(stack, back, code, x)
-}
-
-// (break) and (return): the statements above the topmost token go, and so do the active lanes.
-fn leave(kind: u32, lanes: Lanes, stack: &[u64], height: usize) -> Stand
-    requires { ⌜ height ≤ length (now stack) ⌝ }
-    ensures { λ r. ⌜ (stackIn (now (stack .entry)) (r .height) ≡ fromToken (stackIn (now (stack .entry)) height))
-        × (r .lanes ≡ cond (eqb kind breakKind) (brokenBy lanes) (returnedBy lanes)) ⌝ }
-{
-    let height = drop_rows(stack, height);
-    if kind == Kernel::BREAK {
-        let lanes = lanes.break_off();
-        return Stand { height, lanes };
-    }
-    let lanes = lanes.give_up();
-    Stand { height, lanes }
-}
-
-// The statement of row i, where it has no expression: a skip, a call, a break or a return, which leave the cells as they are.
-fn obey_plain(
-    code: &[u32],
-    i: usize,
-    kind: u32,
-    lanes: Lanes,
-    stack: &mut [u64],
-    height: usize,
-) -> Stand
-    requires { ⌜ CanStep (now code) (now stack) height × IsPlain (now code) i kind × (i < 256) ⌝ }
-    ensures { λ r. ⌜ ((e μ : List ℕ) → warpOf (now (stack .exit)) r μ ≡ obey (now (code .entry)) e i (stackIn (now (stack .entry)) height) lanes μ) ⌝ }
-{
-    if kind == Kernel::SKIP {
-        return Stand { height, lanes };
-    }
-    if kind == Kernel::CALL {
-        let height = enter(code, at(code, 5 * i + 2), lanes.active, stack, height);
-        return Stand { height, lanes };
-    }
-    leave(kind, lanes, stack, height)
 }
 
 // The statement of row i.
@@ -154,6 +133,9 @@ pub(crate) fn obey_row(
         ≡ obey (now (code .entry)) (now (expressions .entry)) i (stackIn (now (stack .entry)) height) lanes (now (cells .entry)) ⌝ }
 {
     let kind = at(code, 5 * i + 1);
+    if kind == Kernel::SKIP {
+        return Stand { height, lanes };
+    }
     if kind == Kernel::ASSIGN {
         assign(code, expressions, i, lanes.active, cells);
         return Stand { height, lanes };
@@ -164,25 +146,16 @@ pub(crate) fn obey_row(
     if kind == Kernel::WHILE {
         return enter_loop(code, expressions, i, lanes, stack, height, cells);
     }
-    obey_plain(code, i, kind, lanes, stack, height)
-}
-
-// (while, underlined): the body once more, over the loop, which stays on top.
-pub(crate) fn repeat(
-    code: &[u32],
-    expressions: &[u32],
-    i: usize,
-    lanes: Lanes,
-    stack: &mut [u64],
-    height: usize,
-    cells: &[u32],
-) -> Stand
-    requires { ⌜ CanStep (now code) (now stack) height × (i < 256) ⌝ }
-    ensures { λ r. ⌜ warpOf (now (stack .exit)) r (now (cells .entry))
-        ≡ repeating (now (code .entry)) (now (expressions .entry)) i (stackIn (now (stack .entry)) height) lanes (now (cells .entry)) ⌝ }
-{
-    let acting = acting_of(code, expressions, i, lanes.active, cells);
-    let height = push_named(stack, height, code, 5 * i + 3);
-    let lanes = lanes.only(acting);
+    if kind == Kernel::CALL {
+        let x = at(code, 5 * i + 2);
+        let height = enter(code, x, lanes.active, stack, height);
+        return Stand { height, lanes };
+    }
+    let height = drop_rows(stack, height);
+    if kind == Kernel::BREAK {
+        let lanes = lanes.break_off();
+        return Stand { height, lanes };
+    }
+    let lanes = lanes.give_up();
     Stand { height, lanes }
 }
