@@ -1,3 +1,4 @@
+-- `probe_warp` meets its contract: the answer room has what the run told. Assumes nothing.
 use native.Mathlib.Omega.{arith}
 use lib.ListN.{length-set}
 use Rattle.probe.specs.Numbers.{answerRoom}
@@ -11,50 +12,33 @@ returns : tie.Need-returns
 unfolding answerRoom
 returns c = warp-short _ _ _ _ _ _ (omega (arith, c .if1 .taken))
 
-run-kernel-requires : tie.Need-run-kernel-requires
-run-kernel-requires c κs = search needs
-
-cast-put-told : tie.Need-cast-put-told
-cast-put-told c = search needs
-
 put-told-requires : tie.Need-put-told-requires
 put-told-requires c κs =
     (omega (arith, c .before .before .before .before .before .before .if1 .left), record { place = omega (arith, warp-place _ _ _ _ _ _ _ (c .before .before .before .before .run-kernel .ensures)); also = omega arith; third = omega arith; fourth = omega arith })
 
-cast-answer : tie.Need-cast-answer
-cast-answer c = search needs
-
-slice-write-answer : tie.Need-slice-write-answer
-slice-write-answer c = search needs
-
-cast-answer-2 : tie.Need-cast-answer-2
-cast-answer-2 c = search needs
-
 slice-write-answer-2 : tie.Need-slice-write-answer-2
 slice-write-answer-2 c = simp length-set (search needs)
 
-same-length : tie.Need-same-length
-same-length c = search needs
-
-same-length-2 : tie.Need-same-length-2
-same-length-2 c = search needs
-
 returns-2 : tie.Need-returns-2
 unfolding answerRoom
-returns-2 c = warp-told _ _ _ _ _ _ (omega (arith, c .before .before .before .before .before .before .before .before .before .before .before .if1 .left)) (c .before .before .before .before .before .before .before .before .before .run-kernel .ensures) (c .before .before .before .before .put-told .ensures)
+returns-2 c =
+    let at-put-told = c .before .before .before .before in
+    let at-run-kernel = at-put-told .before .before .before .before .before in
+    let at-if1 = at-run-kernel .before .before in
+    warp-told _ _ _ _ _ _ (omega (arith, at-if1 .if1 .left)) (at-run-kernel .run-kernel .ensures) (at-put-told .put-told .ensures)
 
 pub probe-warp-spec : {M : Type 1} → statement M
 probe-warp-spec =
     tie.close
     (tie.spec
     returns
-    run-kernel-requires
-    cast-put-told
+    (λ c κs. search needs)
+    (λ c. search needs)
     put-told-requires
-    cast-answer
-    slice-write-answer
-    cast-answer-2
+    (λ c. search needs)
+    (λ c. search needs)
+    (λ c. search needs)
     slice-write-answer-2
-    same-length
-    same-length-2
+    (λ c. search needs)
+    (λ c. search needs)
     returns-2)

@@ -1,3 +1,4 @@
+-- `run_from` meets its contract: what the loop has come to is the warp after the steps taken. Assumes nothing.
 use mathlib.Core.Path.{refl}
 use Prim.Native.Nat.{_-_}
 use native.Mathlib.Omega.{arith}
@@ -14,62 +15,42 @@ Inv-loop code expressions lanes cells₀ steps stack₀ stand₀ taken₀ cells 
 abbrev μ-loop : tie.MeasureT-loop
 μ-loop code expressions lanes cells₀ steps stack₀ stand₀ taken₀ cells stack stand taken = steps - taken
 
-slice-aggregate-start : tie.Need-slice-aggregate-start Inv-loop μ-loop
-slice-aggregate-start c = search needs
-
-start-requires : tie.Need-start-requires Inv-loop μ-loop
-start-requires c κs = search needs
-
 loop-holds : tie.Need-loop-holds Inv-loop μ-loop
 loop-holds c = going-start _ _ _ _ _ _ _ _ (c .before .before .before .before .before .before .pre) refl (c .before .start .kept .1 .1 .0) (c .before .start .ensures)
-
-ended-requires : tie.Need-ended-requires Inv-loop μ-loop
-ended-requires c κs = search needs
-
-same-length : tie.Need-same-length Inv-loop μ-loop
-same-length c = search needs
 
 returns : tie.Need-returns Inv-loop μ-loop
 returns c = told-by (c .ended .ensures) (run-spent _ _ _ _ _ _ _ _ _ (c .before .before .before .before .loop .inv) (c .before .before .if1 .taken) (c .before .if2 .taken))
 
-ended-requires-2 : tie.Need-ended-requires-2 Inv-loop μ-loop
-ended-requires-2 c κs = search needs
-
-same-length-2 : tie.Need-same-length-2 Inv-loop μ-loop
-same-length-2 c = search needs
-
 returns-2 : tie.Need-returns-2 Inv-loop μ-loop
 returns-2 c = told-by (c .ended2 .ensures) (run-high _ _ _ _ _ _ _ _ _ (c .before .before .before .before .before .before .loop .inv) (c .before .before .before .before .if1 .taken) (c .before .before .before .if2 .left) (c .before .if3 .taken))
 
-slice-aggregate-step : tie.Need-slice-aggregate-step Inv-loop μ-loop
-slice-aggregate-step c = search needs
-
-step-requires : tie.Need-step-requires Inv-loop μ-loop
-step-requires c κs = search needs
-
-ended-requires-3 : tie.Need-ended-requires-3 Inv-loop μ-loop
-ended-requires-3 c κs = search needs
-
-same-length-3 : tie.Need-same-length-3 Inv-loop μ-loop
-same-length-3 c = search needs
-
 returns-3 : tie.Need-returns-3 Inv-loop μ-loop
-returns-3 c = told-by (c .ended3 .ensures) (run-full _ _ _ _ _ _ _ _ _ (c .before .before .before .before .before .before .before .before .before .before .before .before .before .before .loop .inv) _ _ _ (c .before .before .before .before .before .before .step .ensures) (c .before .before .before .before .before .before .before .before .before .before .before .before .before .before .before .before .before .before .before .before .before .pre) (c .before .before .before .before .before .before .before .before .before .before .before .before .if1 .taken) (c .before .before .before .before .before .before .before .before .before .before .before .if2 .left) (c .before .before .before .before .before .before .before .before .before .if3 .left) (omega (arith, c .before .if4 .taken)))
+returns-3 c =
+    let at-if4 = c .before in
+    let at-step = at-if4 .before .before .before .before .before in
+    let at-if3 = at-step .before .before .before in
+    let at-if2 = at-if3 .before .before in
+    let at-if1 = at-if2 .before in
+    let at-loop = at-if1 .before .before in
+    let at-pre = at-loop .before .before .before .before .before .before .before in
+    told-by (c .ended3 .ensures) (run-full _ _ _ _ _ _ _ _ _ (at-loop .loop .inv) _ _ _ (at-step .step .ensures) (at-pre .pre) (at-if1 .if1 .taken) (at-if2 .if2 .left) (at-if3 .if3 .left) (omega (arith, at-if4 .if4 .taken)))
 
 add-taken : tie.Need-add-taken Inv-loop μ-loop
-add-taken c = omega (arith, c .before .before .before .before .before .before .before .before .before .before .before .before .before .loop .inv .soon, c .before .before .before .before .before .before .before .before .before .before .if2 .left, c .before .before .before .before .before .before .before .before .before .before .before .before .before .before .before .before .before .before .before .before .good)
-
-loop-less : tie.Need-loop-less Inv-loop μ-loop
-loop-less c = search needs
+add-taken c =
+    let at-if2 = c .before .before .before .before .before .before .before .before .before .before in
+    let at-loop = at-if2 .before .before .before in
+    let at-good = at-loop .before .before .before .before .before .before .before in
+    omega (arith, at-loop .loop .inv .soon, at-if2 .if2 .left, at-good .good)
 
 loop-again : tie.Need-loop-again Inv-loop μ-loop
-loop-again c = run-on _ _ _ _ _ _ _ _ _ (c .before .before .before .before .before .before .before .before .before .before .before .before .before .loop .inv) _ _ _ (c .before .before .before .before .before .step .ensures) (c .before .before .before .before .before .before .before .before .before .before .before .before .before .before .before .before .before .before .before .before .pre) (c .before .before .before .before .before .before .before .before .before .before .before .if1 .taken) (c .before .before .before .before .before .before .before .before .before .before .if2 .left) (c .before .before .before .before .before .before .before .before .if3 .left) (omega (arith, c .if4 .left)) (c .before .before .before .before .before .step .kept .1 .1 .1 .0) (c .before .before .before .before .before .step .kept .1 .1 .1 .1 .0)
-
-ended-requires-4 : tie.Need-ended-requires-4 Inv-loop μ-loop
-ended-requires-4 c κs = search needs
-
-same-length-4 : tie.Need-same-length-4 Inv-loop μ-loop
-same-length-4 c = search needs
+loop-again c =
+    let at-step = c .before .before .before .before .before in
+    let at-if3 = at-step .before .before .before in
+    let at-if2 = at-if3 .before .before in
+    let at-if1 = at-if2 .before in
+    let at-loop = at-if1 .before .before in
+    let at-pre = at-loop .before .before .before .before .before .before .before in
+    run-on _ _ _ _ _ _ _ _ _ (at-loop .loop .inv) _ _ _ (at-step .step .ensures) (at-pre .pre) (at-if1 .if1 .taken) (at-if2 .if2 .left) (at-if3 .if3 .left) (omega (arith, c .if4 .left)) (at-step .step .kept .1 .1 .1 .0) (at-step .step .kept .1 .1 .1 .1 .0)
 
 returns-4 : tie.Need-returns-4 Inv-loop μ-loop
 returns-4 c = told-by (c .ended4 .ensures) (run-done _ _ _ _ _ _ _ _ _ (c .before .before .before .loop .inv) (c .before .if1 .left))
@@ -80,23 +61,23 @@ run-from-spec =
     (tie.spec
     Inv-loop
     μ-loop
-    slice-aggregate-start
-    start-requires
+    (λ c. search needs)
+    (λ c κs. search needs)
     loop-holds
-    ended-requires
-    same-length
+    (λ c κs. search needs)
+    (λ c. search needs)
     returns
-    ended-requires-2
-    same-length-2
+    (λ c κs. search needs)
+    (λ c. search needs)
     returns-2
-    slice-aggregate-step
-    step-requires
-    ended-requires-3
-    same-length-3
+    (λ c. search needs)
+    (λ c κs. search needs)
+    (λ c κs. search needs)
+    (λ c. search needs)
     returns-3
     add-taken
-    loop-less
+    (λ c. search needs)
     loop-again
-    ended-requires-4
-    same-length-4
+    (λ c κs. search needs)
+    (λ c. search needs)
     returns-4)

@@ -1,3 +1,4 @@
+-- `fits` meets its contract: its tests are the definition's. Assumes nothing.
 use native.Mathlib.Omega.{arith}
 use Rattle.machine.proofs.Doors.{too-many, too-narrow, by-height}
 use Rattle.machine.proofs.moves.fits.Statement.{statement}

@@ -1,3 +1,4 @@
+-- `move_on` meets its contract, by the topmost entry. Assumes nothing.
 use Rattle.machine.proofs.Obeying.{step-none, step-token, step-inact, step-row, step-again}
 use borrow.Author.Needs.{needs}
 use Rattle.machine.proofs.moves.move_on.Statement.{statement}
@@ -6,72 +7,47 @@ use Rattle.machine.proofs.moves.move_on.Tie as tie
 returns : tie.Need-returns
 returns c = step-none _ _ _ _ _ _ (c .if1 .taken)
 
-sub-under : tie.Need-sub-under
-sub-under c = search needs
-
-mul-entry : tie.Need-mul-entry
-mul-entry c = search needs
-
-slice-read-entry : tie.Need-slice-read-entry
-slice-read-entry c = search needs
-
-take-off-requires : tie.Need-take-off-requires
-take-off-requires c κs = search needs
-
 returns-2 : tie.Need-returns-2
 returns-2 c = step-token _ _ _ _ _ _ (c .before .before .before .before .if1 .left) _ (c .before .if2 .taken) (c .take-off .ensures)
-
-drop-rows-requires : tie.Need-drop-rows-requires
-drop-rows-requires c κs = search needs
-
-same-length : tie.Need-same-length
-same-length c = search needs
 
 returns-3 : tie.Need-returns-3
 returns-3 c = step-inact _ _ _ _ _ _ (c .before .before .before .before .before .before .before .if1 .left) _ (c .before .before .before .before .if2 .left) (c .before .before .if3 .taken) (c .drop-rows .ensures .0)
 
-obey-row-requires : tie.Need-obey-row-requires
-obey-row-requires c κs = search needs
-
-same-length-2 : tie.Need-same-length-2
-same-length-2 c = search needs
-
-same-length-3 : tie.Need-same-length-3
-same-length-3 c = search needs
-
 returns-4 : tie.Need-returns-4
-returns-4 c = step-row _ _ _ _ _ _ (c .before .before .before .before .before .before .before .before .before .before .before .before .before .if1 .left) _ (c .before .before .before .before .before .before .before .if4 .taken) (c .before .before .before .before .before .before .before .before .if3 .left) (c .before .before .before .before .obey-row .ensures)
-
-repeat-requires : tie.Need-repeat-requires
-repeat-requires c κs = search needs
-
-same-length-4 : tie.Need-same-length-4
-same-length-4 c = search needs
-
-same-length-5 : tie.Need-same-length-5
-same-length-5 c = search needs
+returns-4 c =
+    let at-obey-row = c .before .before .before .before in
+    let at-if4 = at-obey-row .before .before .before in
+    let at-if3 = at-if4 .before in
+    let at-if1 = at-if3 .before .before .before .before .before in
+    step-row _ _ _ _ _ _ (at-if1 .if1 .left) _ (at-if4 .if4 .taken) (at-if3 .if3 .left) (at-obey-row .obey-row .ensures)
 
 returns-5 : tie.Need-returns-5
-returns-5 c = step-again _ _ _ _ _ _ (c .before .before .before .before .before .before .before .before .before .before .before .if1 .left) _ (c .before .before .before .before .before .if4 .left) (c .before .before .before .before .before .before .before .before .if2 .left) (c .before .before .before .before .before .before .if3 .left) (c .before .before .repeat .ensures)
+returns-5 c =
+    let at-repeat = c .before .before in
+    let at-if4 = at-repeat .before .before .before in
+    let at-if3 = at-if4 .before in
+    let at-if2 = at-if3 .before .before in
+    let at-if1 = at-if2 .before .before .before in
+    step-again _ _ _ _ _ _ (at-if1 .if1 .left) _ (at-if4 .if4 .left) (at-if2 .if2 .left) (at-if3 .if3 .left) (at-repeat .repeat .ensures)
 
 pub move-on-spec : {M : Type 1} → statement M
 move-on-spec =
     tie.close
     (tie.spec
     returns
-    sub-under
-    mul-entry
-    slice-read-entry
-    take-off-requires
+    (λ c. search needs)
+    (λ c. search needs)
+    (λ c. search needs)
+    (λ c κs. search needs)
     returns-2
-    drop-rows-requires
-    same-length
+    (λ c κs. search needs)
+    (λ c. search needs)
     returns-3
-    obey-row-requires
-    same-length-2
-    same-length-3
+    (λ c κs. search needs)
+    (λ c. search needs)
+    (λ c. search needs)
     returns-4
-    repeat-requires
-    same-length-4
-    same-length-5
+    (λ c κs. search needs)
+    (λ c. search needs)
+    (λ c. search needs)
     returns-5)

@@ -1,26 +1,15 @@
+-- `step` meets its contract: the warp moves on, or the room cannot be used. Assumes nothing.
 use mathlib.Core.Path.{sym, _∙_}
 use Rattle.machine.proofs.Doors.{roomy, stepped, unstepped}
 use borrow.Author.Needs.{needs}
 use Rattle.machine.proofs.moves.step.Statement.{statement}
 use Rattle.machine.proofs.moves.step.Tie as tie
 
-fits-requires : tie.Need-fits-requires
-fits-requires c κs = search needs
-
 move-on-requires : tie.Need-move-on-requires
 move-on-requires c κs = roomy _ _ _ (sym (c .before .before .before .fits2 .ensures) ∙ c .before .before .if1 .taken)
 
-same-length : tie.Need-same-length
-same-length c = search needs
-
-same-length-2 : tie.Need-same-length-2
-same-length-2 c = search needs
-
 returns : tie.Need-returns
 returns c = stepped _ _ _ _ _ _ (c .before .before .before .before .before .before .before .before .fits2 .ensures) _ _ _ (c .before .before .before .before .before .before .before .if1 .taken) (c .before .before .before .before .move-on .ensures)
-
-same-length-3 : tie.Need-same-length-3
-same-length-3 c = search needs
 
 returns-2 : tie.Need-returns-2
 returns-2 c = unstepped _ _ _ _ _ _ (c .before .fits2 .ensures) (c .if1 .left)
@@ -29,10 +18,10 @@ pub step-spec : {M : Type 1} → statement M
 step-spec =
     tie.close
     (tie.spec
-    fits-requires
+    (λ c κs. search needs)
     move-on-requires
-    same-length
-    same-length-2
+    (λ c. search needs)
+    (λ c. search needs)
     returns
-    same-length-3
+    (λ c. search needs)
     returns-2)

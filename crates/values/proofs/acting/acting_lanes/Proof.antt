@@ -1,3 +1,4 @@
+-- `acting_lanes` meets its contract: the word has the lanes that the loop has passed. Assumes nothing.
 use mathlib.Core.Path.{_≡_, refl, _∙_, subst}
 use Prim.Native.Nat.{ℕ, _-_, _≤_}
 use native.Mathlib.Omega.{arith}
@@ -22,30 +23,21 @@ returns c = acting-limit _ _ _ _ _ (c .if1 .taken)
 loop-holds : tie.Need-loop-holds Inv-loop μ-loop
 loop-holds c = (omega arith, refl, acting-none _ _ _)
 
-add-t : tie.Need-add-t Inv-loop μ-loop
-add-t c = search needs
-
-slice-aggregate-acts : tie.Need-slice-aggregate-acts Inv-loop μ-loop
-slice-aggregate-acts c = search needs
-
 acts-requires : tie.Need-acts-requires Inv-loop μ-loop
 unfolding mostExpressions
 acts-requires c κs = (omega arith, omega arith, omega arith)
 
-shl-found : tie.Need-shl-found Inv-loop μ-loop
-shl-found c = search needs
-
-loop-less : tie.Need-loop-less Inv-loop μ-loop
-loop-less c = search needs
-
 loop-again : tie.Need-loop-again Inv-loop μ-loop
-loop-again c = (omega arith, c .before .before .acts .kept .1 .1 .1 .1 .1 .0 ∙ c .before .before .before .before .before .loop .inv .1, acting-hit _ _ _ _ _ (c .before .before .before .before .before .loop .inv .2) _ (c .before .before .acts .ensures) (omega arith) (c .if2 .taken))
-
-loop-less-2 : tie.Need-loop-less-2 Inv-loop μ-loop
-loop-less-2 c = search needs
+loop-again c =
+    let at-acts = c .before .before in
+    let at-loop = at-acts .before .before .before in
+    (omega arith, at-acts .acts .kept .1 .1 .1 .1 .1 .0 ∙ at-loop .loop .inv .1, acting-hit _ _ _ _ _ (at-loop .loop .inv .2) _ (at-acts .acts .ensures) (omega arith) (c .if2 .taken))
 
 loop-again-2 : tie.Need-loop-again-2 Inv-loop μ-loop
-loop-again-2 c = (omega arith, c .before .before .acts .kept .1 .1 .1 .1 .1 .0 ∙ c .before .before .before .before .before .loop .inv .1, acting-miss _ _ _ _ _ (c .before .before .before .before .before .loop .inv .2) _ (c .before .before .acts .ensures) (c .if2 .left))
+loop-again-2 c =
+    let at-acts = c .before .before in
+    let at-loop = at-acts .before .before .before in
+    (omega arith, at-acts .acts .kept .1 .1 .1 .1 .1 .0 ∙ at-loop .loop .inv .1, acting-miss _ _ _ _ _ (at-loop .loop .inv .2) _ (at-acts .acts .ensures) (c .if2 .left))
 
 returns-2 : tie.Need-returns-2 Inv-loop μ-loop
 returns-2 c =
@@ -61,12 +53,12 @@ acting-lanes-spec =
     μ-loop
     returns
     loop-holds
-    add-t
-    slice-aggregate-acts
+    (λ c. search needs)
+    (λ c. search needs)
     acts-requires
-    shl-found
-    loop-less
+    (λ c. search needs)
+    (λ c. search needs)
     loop-again
-    loop-less-2
+    (λ c. search needs)
     loop-again-2
     returns-2)

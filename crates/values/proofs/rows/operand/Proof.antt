@@ -1,10 +1,8 @@
+-- `operand` meets its contract: an earlier row's value, or 0. Assumes nothing.
 use borrow.Author.Needs.{needs}
 use borrow.Author.Tests.{lt-ltb, le-ltb}
 use Rattle.values.proofs.rows.operand.Statement.{statement}
 use Rattle.values.proofs.rows.operand.Tie as tie
-
-at-requires : tie.Need-at-requires
-at-requires c κs = search needs
 
 returns : tie.Need-returns
 returns c = rw (lt-ltb _ _ (c .before .if1 .taken)) (c .at .ensures)
@@ -13,4 +11,4 @@ returns-2 : tie.Need-returns-2
 returns-2 c = rw (le-ltb _ _ (c .if1 .left))
 
 pub operand-spec : {M : Type 1} → statement M
-operand-spec = tie.close (tie.spec at-requires returns returns-2)
+operand-spec = tie.close (tie.spec (λ c κs. search needs) returns returns-2)

@@ -1,3 +1,4 @@
+-- `row_value` meets its contract, by the row's kind. Assumes nothing.
 use borrow.Author.Needs.{needs}
 use borrow.Author.Tests.{eq-eqb, ne-eqb, lt-ltb, le-ltb}
 use native.Mathlib.Omega.{arith}
@@ -14,16 +15,10 @@ returns-2 c = simp (eq-eqb _ _ (c .if2 .taken), ne-eqb _ _ (c .before .if1 .left
 returns-3 : tie.Need-returns-3
 returns-3 c = simp (eq-eqb _ _ (c .if3 .taken), ne-eqb _ _ (c .before .if2 .left), ne-eqb _ _ (c .before .before .if1 .left))
 
-wrapping-add-u32-requires : tie.Need-wrapping-add-u32-requires
-wrapping-add-u32-requires c κs = search needs
-
 returns-4 : tie.Need-returns-4
 returns-4 c =
     let b = c .before in
     is-sum _ _ _ _ _ _ (b .before .before .before .if1 .left) (b .before .before .if2 .left) (b .before .if3 .left) (b .if4 .taken) _ (c .wrapping-add-u32 .ensures)
-
-wrapping-sub-u32-requires : tie.Need-wrapping-sub-u32-requires
-wrapping-sub-u32-requires c κs = search needs
 
 returns-5 : tie.Need-returns-5
 returns-5 c =
@@ -48,9 +43,9 @@ row-value-spec =
     returns
     returns-2
     returns-3
-    wrapping-add-u32-requires
+    (λ c κs. search needs)
     returns-4
-    wrapping-sub-u32-requires
+    (λ c κs. search needs)
     returns-5
     returns-6
     returns-7)
