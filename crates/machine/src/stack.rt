@@ -79,7 +79,8 @@ pub(crate) fn push_list(stack: &mut [u64], height: usize, code: &[u32], b: u32) 
 // The rows of the list whose number stands at a place of the table.
 pub(crate) fn push_named(stack: &mut [u64], height: usize, code: &[u32], place: usize) -> usize
     requires { ⌜ (height + 256 ≤ length (now stack)) × (statements (now code) ≤ mostStatements) ⌝ }
-    ensures { λ r. ⌜ (stackIn (now (stack .exit)) r ≡ listOver (now (code .entry)) (getD (now (code .entry)) place 0) (stackIn (now (stack .entry)) height)) × (r ≤ height + 256) ⌝ }
+    ensures { λ r. ⌜ (stackIn (now (stack .exit)) r ≡ listOver (now (code .entry)) (getD (now (code .entry)) place 0) (stackIn (now (stack .entry)) height))
+        × (r ≤ height + 256) ⌝ }
 {
     push_list(stack, height, code, at(code, place))
 }
