@@ -102,14 +102,10 @@ impl Lanes {
 pub fn highest(mask: u32) -> u32
     ensures { λ r. ⌜ r ≡ highestOf 32 mask ⌝ }
 {
-    let mut t = 32u32;
-    while t > 0 {
-        if (mask >> (t - 1)) % 2 == 1 {
-            return t - 1;
-        }
-        t -= 1;
+    if mask == 0 {
+        return 0;
     }
-    0
+    31 ^ u32::leading_zeros(mask)
 }
 
 // The mask of the first n lanes; there are 32.

@@ -42,7 +42,7 @@ module _ (e : List ℕ) where
       earlier ih j = ⊎-elim (λ (b : ltb j i ≡ true). rw b (ih j (ltb-true j i b))) (λ (b : ltb j i ≡ false). rw b) (split (ltb j i))
 
   -- a row's value from those of the rows before it
-  value-step : (i t : ℕ) (μ : Mem) (v : ℕ → ℕ) → ((j : ℕ) → j < i → v j ≡ eval (exprAt e (suc j) j) t μ)
+  pub value-step : (i t : ℕ) (μ : Mem) (v : ℕ → ℕ) → ((j : ℕ) → j < i → v j ≡ eval (exprAt e (suc j) j) t μ)
       → valueBy (exprKind e i) (exprX e i) (cond (ltb (exprX e i) i) (v (exprX e i)) 0) (cond (ltb (exprY e i) i) (v (exprY e i)) 0) (getD μ (exprX e i) 0) t ≡ eval (exprAt e (suc i) i) t μ
   unfolding exprAt eval
   value-step i t μ v h =
@@ -83,10 +83,20 @@ module _ (e : List ℕ) where
   pub in-limit : (i t : ℕ) (μ : Mem) (r : ℕ) → i < mostExpressions → r ≡ eval (exprAt e (suc i) i) t μ → r ≡ eval (expression e i) t μ
   in-limit i t μ r h q = rw (lt-ltb i mostExpressions h) q
 
--- a sum and a difference, as the code comes to them
-module _ (k x a b h t : ℕ) (n₀ : k ≢ 0) (n₁ : k ≢ 1) (n₂ : k ≢ 2) where
+-- a row with operands, as the code comes to it
+module _ (k x a b h t : ℕ) (l : 3 ≤ k) where
+  paired : valueBy k x a b h t ≡ cond (eqb k 3) ((a + b) % 2 ^ 32) (cond (eqb k 4) ((a + 2 ^ 32 - b) % 2 ^ 32) (cond (ltb a b) 1 0))
+  paired = rw (ne-eqb k 0 (λ q. omega arith), ne-eqb k 1 (λ q. omega arith), ne-eqb k 2 (λ q. omega arith))
+
   pub is-sum : k ≡ 3 → (r : ℕ) → r ≡ (a + b) % 2 ^ 32 → r ≡ valueBy k x a b h t
-  is-sum e r q = rw (ne-eqb k 0 n₀, ne-eqb k 1 n₁, ne-eqb k 2 n₂, eq-eqb k 3 e) q
+  is-sum e r q = rw paired (rw (eq-eqb k 3 e) q)
 
   pub is-difference : k ≢ 3 → k ≡ 4 → (r : ℕ) → a < 2 ^ 32 → b < 2 ^ 32 → r < 2 ^ 32 → (r + b) % 2 ^ 32 ≡ a → r ≡ valueBy k x a b h t
-  is-difference n₃ e r la lb lr q = rw (ne-eqb k 0 n₀, ne-eqb k 1 n₁, ne-eqb k 2 n₂, ne-eqb k 3 n₃, eq-eqb k 4 e) (omega arith)
+  is-difference n e r la lb lr q = rw paired (rw (ne-eqb k 3 n, eq-eqb k 4 e) (omega arith))
+
+  pub is-less : k ≢ 3 → k ≢ 4 → valueBy k x a b h t ≡ cond (ltb a b) 1 0
+  is-less n m = rw paired (rw (ne-eqb k 3 n, ne-eqb k 4 m))
+
+-- one without, the last of the three
+pub is-lane : (k x a b h t : ℕ) → k < 3 → k ≢ 0 → k ≢ 1 → t ≡ valueBy k x a b h t
+is-lane k x a b h t l n m = rw (ne-eqb k 0 n, ne-eqb k 1 m, eq-eqb k 2 (omega arith))

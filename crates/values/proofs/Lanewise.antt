@@ -1,31 +1,29 @@
 -- The lanes for which an expression is not 0, one after the other.
-use mathlib.Core.Path.{_≡_, refl, sym, ap₂, _∙_, subst}
+use mathlib.Core.Path.{_≡_, refl, sym, ap, ap₂, _∙_, subst}
 use mathlib.Core.Logic.{⊎-elim, by-cases, _≢_}
 use mathlib.Core.Bool.{Bool, true, false, _&&_, _||_, not, cond}
 use mathlib.Core.List.{List}
-use Prim.Native.Nat.{ℕ, zero, suc, _+_, _*_, _/_, _%_, _^_, _≤_, _<_}
+use Prim.Native.Nat.{ℕ, zero, suc, _+_, _-_, _*_, _/_, _%_, _^_, _≤_, _<_}
 use native.Mathlib.Decide.{ℕ-discrete, decLt}
+use native.Mathlib.Nat.{mod-eq-of-lt}
 use native.Mathlib.Numerals.{add-one}
 use native.Mathlib.Omega.{arith}
 use borrow.Author.Tests.{eq-eqb, ne-eqb, lt-ltb, le-ltb}
-use lib.Bits.{bitOr}
+use lib.Bits.{bitOr, or-zero-l}
+use lib.Count.{leadingZeros, leading-length}
 use lib.Dec.{eqb, ltb}
 use Rattle.relation.specs.Bits.{bitOf}
 use Rattle.relation.proofs.Truth.{split, right}
-use Rattle.relation.proofs.Words.{or-bit, own-bit, other-bit, one-shl}
+use Rattle.relation.proofs.Words.{or-bit, own-bit, other-bit, one-shl, rem-bit}
 use Rattle.warps.specs.Language.{Expr, Mem, eval, test}
 use Rattle.warps.specs.Warp.{act}
 use Rattle.kernels.specs.Limits.{mostExpressions}
 use Rattle.values.specs.Expressions.{expression, acting}
 use Rattle.values.proofs.Filling.{past-limit}
 
-pub acts-on : (m t v : ℕ) (e : Expr) (μ : Mem) → m / 2 ^ t % 2 ≡ 1 → v ≡ eval e t μ → not (eqb v 0) ≡ bitOf m t && test e t μ
+pub acts-as : (m t v : ℕ) (e : Expr) (μ : Mem) → v ≡ eval e t μ → eqb (m / 2 ^ t % 2) 1 && not (eqb v 0) ≡ bitOf m t && test e t μ
 unfolding bitOf test
-acts-on m t v e μ p q = rw (eq-eqb (m / 2 ^ t % 2) 1 p, q)
-
-pub acts-off : (m t : ℕ) (e : Expr) (μ : Mem) → m / 2 ^ t % 2 ≢ 1 → false ≡ bitOf m t && test e t μ
-unfolding bitOf
-acts-off m t e μ p = rw (ne-eqb (m / 2 ^ t % 2) 1 p)
+acts-as m t v e μ q = rw q
 
 pub acting-none : (m : ℕ) (e : Expr) (μ : Mem) → 0 ≡ acting m e μ 0
 unfolding acting
@@ -50,6 +48,44 @@ acting-limit x i m μ (suc n) h = rw (← past-limit x i n μ h) (off (bitOf m n
     off true u q = q
     off false u q = q
 
+-- lanes past the length of the mask are not in it
+high-bit : (m n t : ℕ) → m < 2 ^ n → n ≤ t → bitOf m t ≡ false
+high-bit m n t h l = ap (λ (w : ℕ). bitOf w t) (sym (mod-eq-of-lt h)) ∙ rem-bit m n t ∙ rw (le-ltb t n l)
+
+pub acting-stays : (m : ℕ) (e : Expr) (μ : Mem) (n k : ℕ) → m < 2 ^ n → n ≤ k → acting m e μ n ≡ acting m e μ k
+unfolding acting
+acting-stays m e μ n zero h l = let z : n ≡ 0 = omega arith in rw z
+acting-stays m e μ n (suc k) h l =
+    by-cases (ℕ-discrete n (suc k)) (λ (q : n ≡ suc k). ap (acting m e μ) q)
+    (λ (q : n ≢ suc k). let i : n ≤ k = omega arith in rw (high-bit m n k h i) (acting-stays m e μ n k h i))
+
+pub count-leading : (m : ℕ) → m < 2 ^ 32 → m < 2 ^ (32 - leadingZeros 32 m)
+count-leading m h = let (n, e, l, _) = leading-length 32 m h in let q : 32 - leadingZeros 32 m ≡ n = omega arith in rw q l
+
+-- a mask of one lane
+pub one-on : (m t v : ℕ) (e : Expr) (μ : Mem) → v ≡ eval e t μ → v ≢ 0 → m ≡ cond (test e t μ) m 0
+unfolding test
+one-on m t v e μ q n = rw (← q, ne-eqb v 0 n)
+
+pub one-off : (m t v : ℕ) (e : Expr) (μ : Mem) → v ≡ eval e t μ → v ≡ 0 → 0 ≡ cond (test e t μ) m 0
+unfolding test
+one-off m t v e μ q z = rw (← q, eq-eqb v 0 z)
+
+acting-lower : (t : ℕ) (e : Expr) (μ : Mem) (n : ℕ) → n ≤ t → acting (1 * 2 ^ t) e μ n ≡ 0
+unfolding acting
+acting-lower t e μ zero l = refl
+acting-lower t e μ (suc n) l = rw (other-bit t n (λ q. omega arith)) (acting-lower t e μ n (omega arith))
+
+acting-single : (t : ℕ) (e : Expr) (μ : Mem) → cond (test e t μ) (1 * 2 ^ t) 0 ≡ acting (1 * 2 ^ t) e μ (suc t)
+unfolding acting
+acting-single t e μ = rw (own-bit t, acting-lower t e μ t (omega arith), or-zero-l)
+
+pub acting-alone : (m : ℕ) (e : Expr) (μ : Mem) (n r : ℕ) → n ≢ 0 → n ≤ 32 → m < 2 ^ n → m ≡ (1 * 2 ^ (n - 1)) % 2 ^ 32 → r ≡ cond (test e (n - 1) μ) m 0 → r ≡ acting m e μ 32
+acting-alone m e μ n r z l h q p =
+    let c : suc (n - 1) ≡ n = omega arith in
+    let w : m ≡ 1 * 2 ^ (n - 1) = q ∙ one-shl (n - 1) 32 (omega arith) in
+    p ∙ subst (λ (x : ℕ). cond (test e (n - 1) μ) x 0 ≡ acting x e μ (suc (n - 1))) (sym w) (acting-single (n - 1) e μ) ∙ ap (acting m e μ) c ∙ acting-stays m e μ n 32 h l
+
 or-false : (b : Bool) → b || false ≡ b
 or-false true = refl
 or-false false = refl
@@ -60,7 +96,7 @@ unfolding acting
 acting-below m e μ zero t = zero-word t ∙ sym (rw (le-ltb t 0 (omega arith)))
   where
     zero-word : (t : ℕ) → bitOf 0 t ≡ false
-    zero-word t = Rattle.relation.proofs.Words.rem-bit 0 0 t ∙ rw (le-ltb t 0 (omega arith))
+    zero-word t = rem-bit 0 0 t ∙ rw (le-ltb t 0 (omega arith))
 acting-below m e μ (suc n) t =
     by-cases (ℕ-discrete t n)
     (λ (q : t ≡ n).

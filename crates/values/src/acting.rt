@@ -1,31 +1,74 @@
 // The lanes for which an expression is not 0.
 ghost use mathlib.Core.Path.{_≡_};
-ghost use mathlib.Core.Bool.{_&&_};
-ghost use Prim.Native.Nat.{_<_, _≤_};
-ghost use lib.ListN.{length};
-ghost use Rattle.relation.specs.Bits.{bitOf};
+ghost use mathlib.Core.Bool.{cond};
+ghost use Prim.Native.Nat.{_^_, _<_, _≤_};
 ghost use Rattle.warps.specs.Language.{test};
 ghost use Rattle.kernels.specs.Limits.{mostExpressions};
 ghost use Rattle.values.specs.Expressions.{expression, acting};
-use crate::rows::evaluate;
+ghost use Rattle.values.specs.Strips.{CanFill, Zeroed};
+use crate::rows::value;
+use crate::wide::fill_rows;
 use kernels::Kernel;
 
-// Lane t is in the mask, and row `root` is not 0 for it.
-fn acts(
+// How many lanes there are up to the highest of a mask.
+fn lane_count(mask: u32) -> u32
+    ensures { λ r. ⌜ (mask < 2 ^ r) × (r ≤ 32) ⌝ }
+{
+    32 - u32::leading_zeros(mask)
+}
+
+// A mask of one lane, if row `root` is not 0 for it.
+fn acting_one(expressions: &[u32], root: usize, lane: u32, mask: u32, cells: &[u32]) -> u32
+    ensures { λ r. ⌜ r ≡ cond (test (expression (now (expressions .entry)) root) lane (now (cells .entry))) mask 0 ⌝ }
+{
+    if value(expressions, root, lane, cells) != 0 {
+        return mask;
+    }
+    0
+}
+
+// Of the first `count` lanes, those in a mask for which row `root` is not 0; the room is for the values.
+fn acting_in(
     expressions: &[u32],
     root: usize,
     mask: u32,
-    t: u32,
+    count: u32,
     cells: &[u32],
     values: &mut [u32],
-) -> bool
-    requires { ⌜ (t < 32) × (root < mostExpressions) × (mostExpressions ≤ length (now values)) ⌝ }
-    ensures { λ r. ⌜ r ≡ bitOf mask t && test (expression (now (expressions .entry)) root) t (now (cells .entry)) ⌝ }
+) -> u32
+    requires { ⌜ Zeroed (now values) × CanFill (now values) root count ⌝ }
+    ensures { λ r. ⌜ r ≡ acting mask (expression (now (expressions .entry)) root) (now (cells .entry)) count ⌝ }
 {
-    if (mask >> t) % 2 == 1 {
-        return evaluate(expressions, root, t, cells, values) != 0;
+    fill_rows(expressions, root, count as usize, cells, values);
+    let from = root * (count as usize);
+    let mut found = 0u32;
+    let mut t = 0u32;
+    while t < count {
+        let bit = t;
+        t += 1;
+        if ((mask >> bit) % 2 == 1) & (values[from + (bit as usize)] != 0) {
+            found = found | (1u32 << bit);
+        }
     }
-    false
+    found
+}
+
+// The same, in a room of its own. A small room is emptied sooner, so that the smallest that serves is taken.
+fn acting_several(expressions: &[u32], root: usize, mask: u32, count: u32, cells: &[u32]) -> u32
+    requires { ⌜ (root < mostExpressions) × (count ≤ 32) ⌝ }
+    ensures { λ r. ⌜ r ≡ acting mask (expression (now (expressions .entry)) root) (now (cells .entry)) count ⌝ }
+{
+    let needed = (root + 1) * (count as usize);
+    if needed <= 256 {
+        let mut values = [0u32; 256];
+        return acting_in(expressions, root, mask, count, cells, &mut values);
+    }
+    if needed <= 2048 {
+        let mut values = [0u32; 2048];
+        return acting_in(expressions, root, mask, count, cells, &mut values);
+    }
+    let mut values = [0u32; 8192];
+    acting_in(expressions, root, mask, count, cells, &mut values)
 }
 
 // The lanes of a mask for which row `root` is not 0; there are none past the limit.
@@ -35,15 +78,12 @@ pub fn acting_lanes(expressions: &[u32], root: usize, mask: u32, cells: &[u32]) 
     if root >= Kernel::EXPRESSIONS {
         return 0;
     }
-    let mut values = [0u32; Kernel::EXPRESSIONS];
-    let mut found = 0u32;
-    let mut t = 0u32;
-    while t < Kernel::LANES {
-        let bit = t;
-        t += 1;
-        if acts(expressions, root, mask, bit, cells, &mut values) {
-            found = found | (1u32 << bit);
-        }
+    let count = lane_count(mask);
+    if count == 0 {
+        return 0;
     }
-    found
+    if mask == 1u32 << (count - 1) {
+        return acting_one(expressions, root, count - 1, mask, cells);
+    }
+    acting_several(expressions, root, mask, count, cells)
 }

@@ -1,11 +1,12 @@
-// The rows of expressions one after the other.
+// The rows of expressions one after the other, for one lane.
 ghost use mathlib.Core.Path.{_≡_};
 ghost use mathlib.Core.Bool.{cond};
-ghost use Prim.Native.Nat.{_<_, _≤_};
+ghost use Prim.Native.Nat.{ℕ, _<_, _≤_};
 ghost use lib.Dec.{ltb};
 ghost use lib.ListN.{length, getD};
 ghost use Rattle.warps.specs.Language.{eval};
 ghost use Rattle.kernels.specs.Limits.{mostExpressions};
+ghost use Rattle.kernels.specs.Rows.{sumExpr};
 ghost use Rattle.values.specs.Expressions.{expression, valueBy};
 use kernels::Kernel;
 
@@ -29,9 +30,10 @@ fn operand(values: &[u32], x: u32, i: usize) -> u32
     0
 }
 
-// What a row makes of its operands' values.
-fn row_value(kind: u32, x: u32, a: u32, b: u32, held: u32, lane: u32) -> u32
-    ensures { λ r. ⌜ r ≡ valueBy kind x a b held lane ⌝ }
+// A row without operands: the number x, what cell x holds, or the lane's number.
+pub(crate) fn leaf_value(kind: u32, x: u32, held: u32, lane: u32) -> u32
+    requires { ⌜ kind < sumExpr ⌝ }
+    ensures { λ r. ⌜ ((a b : ℕ) → r ≡ valueBy kind x a b held lane) ⌝ }
 {
     if kind == Kernel::NUMBER {
         return x;
@@ -39,9 +41,14 @@ fn row_value(kind: u32, x: u32, a: u32, b: u32, held: u32, lane: u32) -> u32
     if kind == Kernel::CELL {
         return held;
     }
-    if kind == Kernel::LANE {
-        return lane;
-    }
+    lane
+}
+
+// A row with operands, by their values.
+pub(crate) fn pair_value(kind: u32, a: u32, b: u32) -> u32
+    requires { ⌜ sumExpr ≤ kind ⌝ }
+    ensures { λ r. ⌜ ((x held lane : ℕ) → r ≡ valueBy kind x a b held lane) ⌝ }
+{
     if kind == Kernel::SUM {
         return std::num::wrapping_add_u32(a, b);
     }
@@ -49,6 +56,16 @@ fn row_value(kind: u32, x: u32, a: u32, b: u32, held: u32, lane: u32) -> u32
         return std::num::wrapping_sub_u32(a, b);
     }
     if a < b { 1 } else { 0 }
+}
+
+// What a row makes of its operands' values.
+fn row_value(kind: u32, x: u32, a: u32, b: u32, held: u32, lane: u32) -> u32
+    ensures { λ r. ⌜ r ≡ valueBy kind x a b held lane ⌝ }
+{
+    if kind < Kernel::SUM {
+        return leaf_value(kind, x, held, lane);
+    }
+    pair_value(kind, a, b)
 }
 
 // The value of row `root` for a lane, with room for those of the rows before it; what the room holds does not count.
@@ -59,7 +76,7 @@ pub(crate) fn evaluate(
     cells: &[u32],
     values: &mut [u32],
 ) -> u32
-    requires { ⌜ (root < mostExpressions) × (mostExpressions ≤ length (now values)) ⌝ }
+    requires { ⌜ (root < mostExpressions) × (root < length (now values)) ⌝ }
     ensures { λ r. ⌜ r ≡ eval (expression (now (expressions .entry)) root) lane (now (cells .entry)) ⌝ }
 {
     let mut i = 0;
@@ -74,13 +91,17 @@ pub(crate) fn evaluate(
     values[root]
 }
 
-// The value of row `root` for a lane, or 0 past the limit.
+// The value of row `root` for a lane, or 0 past the limit. A small room is emptied sooner.
 pub fn value(expressions: &[u32], root: usize, lane: u32, cells: &[u32]) -> u32
     ensures { λ r. ⌜ r ≡ eval (expression (now (expressions .entry)) root) lane (now (cells .entry)) ⌝ }
 {
-    if root >= Kernel::EXPRESSIONS {
-        return 0;
+    if root < 32 {
+        let mut values = [0u32; 32];
+        return evaluate(expressions, root, lane, cells, &mut values);
     }
-    let mut values = [0u32; Kernel::EXPRESSIONS];
-    evaluate(expressions, root, lane, cells, &mut values)
+    if root < Kernel::EXPRESSIONS {
+        let mut values = [0u32; Kernel::EXPRESSIONS];
+        return evaluate(expressions, root, lane, cells, &mut values);
+    }
+    0
 }
