@@ -447,7 +447,11 @@ void full_kernel(struct random *random, struct drawn_kernel *kernel)
     draft.most = rows;
     if (chance(random, 50)) {
         double_up(EXPRESSIONS - 1 + below(random, 3));
-        put(KERNEL, ASSIGN, 0, draft.expressions - 1, 0);
+        uint32_t last = draft.expressions - 1, first_arm = draft.lists++, second_arm = draft.lists++;
+        put(KERNEL, ASSIGN, 0, last, 0);
+        put(KERNEL, IF, last, first_arm, second_arm);
+        put(first_arm, ASSIGN, 0, last / 2, 0);
+        put(second_arm, SKIP, 0, 0, 0);
     }
     uint32_t nobodys = draft.lists++;
     put_many(chance(random, 60) ? KERNEL : chance(random, 50) ? nobodys : 1, rows - draft.rows);

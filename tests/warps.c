@@ -24,13 +24,15 @@
 
 enum { ANSWER = 36, EACH = 200, FAR = 1200, OFTEN = 5, SMALL = 13 };
 enum mark { START_OVERFULL, START_FULL, JUST_FULL, BY_IF, BY_WHILE, BY_IDLE, BY_CALL, PARTED, DISPUTED, WOKEN_BY_BRK, WOKEN_BY_CALL, LEFT_ASLEEP, PASSED_BY, LONG_RUN, FAR_END, ALL_LANES, ONE_LANE,
-            EMPTY, SHORT_ANSWER, DEEP, MARKS };
+            EMPTY, SHORT_ANSWER, DEEP, TESTED_BY_ALL, TESTED_APART, TESTED_ALONE, LATE_TEST, LAST_TEST, MARKS };
 
 static const char *const marks[MARKS] = {"a start of 257 entries", "a start of 256 entries", "a stack of just 256 entries after a step", "an if that would overfill", "a while that would overfill",
                                          "a while that no lane enters and that would overfill", "a call that would overfill", "a branch on which lanes part",
                                          "a write of different values by several lanes", "a lane that broke, woken by a brk token", "a lane that returned, woken by a call token",
                                          "a lane in a token's mask that stays disabled", "a lane outside of a token's mask that awaits such a token", "a finished run of over 100 steps",
-                                         "an end past 200 steps", "32 lanes", "one lane", "a kernel of no statement", "an answer room that is too short", "a call within a call"};
+                                         "an end past 200 steps", "32 lanes", "one lane", "a kernel of no statement", "an answer room that is too short", "a call within a call",
+                                         "a test by 32 lanes", "a test by lanes that are not neighbours", "a test by one lane of several", "a test by several lanes of an expression from row 64 on",
+                                         "a test by several lanes of the last of 256 expressions"};
 static const char *const reasons[REASONS] = {"accepted", "no lanes", "over 32 lanes", "a short room of cells", "part of a statement row", "over 256 statements", "part of an expression row",
                                              "over 256 expressions", "an expression of unknown kind", "an expression of an unknown cell", "an operand that is no earlier row",
                                              "a statement of unknown kind", "an assignment to an unknown cell", "an expression that is missing", "a body that is missing", "the kernel as a body",
@@ -213,6 +215,22 @@ static void mark_assignment(const struct kernel *kernel, const struct warp *befo
     marked[DISPUTED] += (unsigned long)differ;
 }
 
+static void mark_test(const struct kernel *kernel, uint32_t active, uint32_t expression)
+{
+    uint32_t lanes = 0, first = LANES, last = 0;
+    for (uint32_t lane = 0; lane < kernel->lanes; lane++)
+        if (has_lane(active, lane)) {
+            first = lanes == 0 ? lane : first;
+            last = lane;
+            lanes++;
+        }
+    marked[TESTED_BY_ALL] += lanes == LANES;
+    marked[TESTED_APART] += lanes > 1 && last - first + 1 > lanes;
+    marked[TESTED_ALONE] += lanes == 1 && kernel->lanes > 1;
+    marked[LATE_TEST] += lanes > 1 && expression >= 64;
+    marked[LAST_TEST] += lanes > 1 && expression == EXPRESSIONS - 1;
+}
+
 static void mark_token(const struct kernel *kernel, const struct warp *before, const struct warp *after, struct entry token)
 {
     int brk = 0, call = 0, asleep = 0, passed_by = 0;
@@ -236,6 +254,8 @@ static void mark_step(const struct kernel *kernel, const struct warp *before, co
     marked[JUST_FULL] += after->height == ENTRIES && before->height < ENTRIES;
     if (rule == ASSIGN_W)
         mark_assignment(kernel, before, statement_at(kernel, top.row));
+    if (rule == IF_W || rule == WHILE_W || rule == WHILE_AGAIN_W)
+        mark_test(kernel, before->active, statement_at(kernel, top.row).x);
     if (rule == IF_W)
         marked[PARTED] += after->active != 0 && after->active != before->active;
     if (rule == TOKEN_W)

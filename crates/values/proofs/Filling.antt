@@ -14,7 +14,8 @@ use Rattle.relation.proofs.Truth.{split}
 use Rattle.warps.specs.Language.{Expr, literal, cell, lane, plus, minus, less, Mem, eval}
 use Rattle.kernels.specs.Limits.{mostExpressions}
 use Rattle.kernels.specs.Rows.{exprKind, exprX, exprY}
-use Rattle.values.specs.Expressions.{exprBy, exprAt, expression, valueBy}
+use Rattle.values.specs.Expressions.{exprBy, exprAt, expression}
+use Rattle.values.specs.Parts.{valueBy, rowBy}
 
 eval-by : (k x : ℕ) (p q : Expr) (t : ℕ) (μ : Mem) → eval (exprBy k x p q) t μ ≡ valueBy k x (eval p t μ) (eval q t μ) (getD μ x 0) t
 unfolding eval
@@ -62,19 +63,23 @@ module _ (e : List ℕ) where
   pub filled-none : (t : ℕ) (μ : Mem) (v : List ℕ) → Filled t μ (length v) v 0
   filled-none t μ v = record { long = refl; past = λ j h. absurd (omega arith) }
 
-  pub filled-more : (t : ℕ) (μ : Mem) (n : ℕ) (v : List ℕ) (i k x y a b h r : ℕ) → Filled t μ n v i → i < n → k ≡ exprKind e i → x ≡ exprX e i → y ≡ exprY e i
-      → a ≡ cond (ltb x i) (getD v x 0) 0 → b ≡ cond (ltb y i) (getD v y 0) 0 → h ≡ getD μ x 0 → r ≡ valueBy k x a b h t → Filled t μ n (set v i r) (i + 1)
-  filled-more t μ n v i k x y a b h r F l ek ex ey ea eb eh er =
+  pub filled-more : (t : ℕ) (μ : Mem) (n : ℕ) (v : List ℕ) (i r : ℕ) → Filled t μ n v i → i < n → r ≡ rowBy e i t μ v → Filled t μ n (set v i r) (i + 1)
+  filled-more t μ n v i r F l q =
       record {
         long = length-set v i r ∙ F .long;
         past =
             λ j m. by-cases (ℕ-discrete j i)
-            (λ (q : j ≡ i). subst (λ (j : ℕ). getD (set v i r) j 0 ≡ eval (exprAt e (suc j) j) t μ) (sym q) (getD-set-same v i r 0 (omega (arith, F .long)) ∙ here))
+            (λ (o : j ≡ i). subst (λ (j : ℕ). getD (set v i r) j 0 ≡ eval (exprAt e (suc j) j) t μ) (sym o) (getD-set-same v i r 0 (omega (arith, F .long)) ∙ q ∙ value-step i t μ (λ j. getD v j 0) (F .past)))
             (λ (o : j ≢ i). getD-set-other v i j r 0 o ∙ F .past j (omega arith));
       }
-    where
-      here : r ≡ eval (exprAt e (suc i) i) t μ
-      here = (er ∙ rw (ea, eb, eh) (rw (ek, ex, ey))) ∙ value-step i t μ (λ j. getD v j 0) (F .past)
+
+  -- a row as the code comes to it, without operands and with them
+  module _ (i t : ℕ) (μ : Mem) (v : List ℕ) {kind x r : ℕ} (ek : kind ≡ exprKind e i) (ex : x ≡ exprX e i) where
+    pub leaf-by : {held : ℕ} → held ≡ getD μ x 0 → ((a b : ℕ) → r ≡ valueBy kind x a b held t) → r ≡ rowBy e i t μ v
+    leaf-by eh q = rw (← ek, ← ex, ← eh) (q _ _)
+
+    pub pair-by : {y a b : ℕ} → y ≡ exprY e i → a ≡ cond (ltb x i) (getD v x 0) 0 → b ≡ cond (ltb y i) (getD v y 0) 0 → ((x held t : ℕ) → r ≡ valueBy kind x a b held t) → r ≡ rowBy e i t μ v
+    pair-by ey ea eb q = rw (← ek, ← ex, ← ey, ← ea, ← eb) (q _ _ _)
 
   pub past-limit : (i t : ℕ) (μ : Mem) → mostExpressions ≤ i → 0 ≡ eval (expression e i) t μ
   unfolding eval

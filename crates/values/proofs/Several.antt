@@ -3,12 +3,12 @@ use mathlib.Core.Path.{_≡_, refl, sym, ap, ap₂, _∙_, subst}
 use mathlib.Core.Logic.{⊎-elim, by-cases, _≢_}
 use mathlib.Core.Bool.{true, false, cond}
 use mathlib.Core.List.{List}
-use Prim.Native.Nat.{ℕ, suc, _+_, _*_, _^_, _≤_, _<_}
+use Prim.Native.Nat.{ℕ, suc, _+_, _*_, _≤_, _<_}
 use native.Mathlib.Decide.{ℕ-discrete, decLt}
 use native.Mathlib.Nat.{suc-mul, mul-le-mul, mul-le-mul-right}
 use native.Mathlib.Numerals.{add-one}
 use native.Mathlib.Omega.{arith}
-use borrow.Author.Tests.{lt-ltb, le-ltb, ltb-true, ltb-false}
+use borrow.Author.Tests.{ltb-true}
 use lib.Dec.{ltb}
 use lib.ListN.{getD, length, set, length-set, replicate, getD-replicate, List·getD-eq-default, length-replicate}
 use lib.Seq.{getD-set-same, getD-set-other}
@@ -17,8 +17,8 @@ use Rattle.relation.proofs.Truth.{split}
 use Rattle.warps.specs.Language.{Mem, eval}
 use Rattle.kernels.specs.Limits.{mostExpressions}
 use Rattle.kernels.specs.Rows.{exprKind, exprX, exprY}
-use Rattle.values.specs.Expressions.{exprAt, valueBy}
-use Rattle.values.specs.Strips.{stripOf, Ahead, Strips, StripDone, CanFill, RowDone, Zeroed, Valued}
+use Rattle.values.specs.Expressions.{exprAt}
+use Rattle.values.specs.Parts.{valueBy, stripOf, Ahead, Strips, StripDone, CanFill, RowDone, Zeroed, Valued}
 use Rattle.values.proofs.Filling.{value-step, in-limit}
 
 -- ---- a row

@@ -1,7 +1,7 @@
--- What the rows of expressions denote, and what the code makes of them.
+-- What the rows of expressions denote, and the lanes for which they are not 0.
 use mathlib.Core.Bool.{_&&_, cond}
 use mathlib.Core.List.{List}
-use Prim.Native.Nat.{ℕ, zero, suc, _+_, _-_, _*_, _%_, _^_}
+use Prim.Native.Nat.{ℕ, zero, suc, _*_, _^_}
 use lib.Bits.{bitOr}
 use lib.Dec.{eqb, ltb}
 use Rattle.relation.specs.Bits.{bitOf}
@@ -25,13 +25,6 @@ module _ (e : List ℕ) where
   -- operands are earlier rows, so that row i is no more than i levels deep; a row past the limit is 0
   abbrev pub expression : ℕ → Expr
   expression i = cond (ltb i mostExpressions) (exprAt (suc i) i) (literal 0)
-
--- the value of a row, from those of its operands and of cell x
-abbrev pub valueBy : (kind x a b held t : ℕ) → ℕ
-valueBy kind x a b held t =
-    cond (eqb kind numberExpr) x
-    (cond (eqb kind cellExpr) held
-    (cond (eqb kind laneExpr) t (cond (eqb kind sumExpr) ((a + b) % 2 ^ 32) (cond (eqb kind differenceExpr) ((a + 2 ^ 32 - b) % 2 ^ 32) (cond (ltb a b) 1 0)))))
 
 -- act, as a word: of the lanes below n, those in a mask for which e is not 0
 unfoldable pub acting : (mask : ℕ) → Expr → Mem → (n : ℕ) → ℕ

@@ -1,3 +1,3 @@
--- Read Expressions. Strips is by itself: what the parts of an evaluation ask for and leave; nothing public speaks of it.
+-- Read Expressions. Parts is by itself: what the parts of an evaluation ask for and leave; nothing public speaks of it.
 pub mod Expressions
-pub mod Strips
+pub mod Parts

@@ -5,7 +5,7 @@ ghost use Prim.Native.Nat.{_^_, _<_, _≤_};
 ghost use Rattle.warps.specs.Language.{test};
 ghost use Rattle.kernels.specs.Limits.{mostExpressions};
 ghost use Rattle.values.specs.Expressions.{expression, acting};
-ghost use Rattle.values.specs.Strips.{CanFill, Zeroed};
+ghost use Rattle.values.specs.Parts.{CanFill, Zeroed};
 use crate::rows::value;
 use crate::wide::fill_rows;
 use kernels::Kernel;

@@ -7,7 +7,8 @@ ghost use lib.ListN.{length, getD};
 ghost use Rattle.warps.specs.Language.{eval};
 ghost use Rattle.kernels.specs.Limits.{mostExpressions};
 ghost use Rattle.kernels.specs.Rows.{sumExpr};
-ghost use Rattle.values.specs.Expressions.{expression, valueBy};
+ghost use Rattle.values.specs.Expressions.{expression};
+ghost use Rattle.values.specs.Parts.{valueBy, rowBy};
 use kernels::Kernel;
 
 // The number at a place, or 0 past the end.
@@ -58,34 +59,30 @@ pub(crate) fn pair_value(kind: u32, a: u32, b: u32) -> u32
     if a < b { 1 } else { 0 }
 }
 
-// What a row makes of its operands' values.
-fn row_value(kind: u32, x: u32, a: u32, b: u32, held: u32, lane: u32) -> u32
-    ensures { λ r. ⌜ r ≡ valueBy kind x a b held lane ⌝ }
+// Row i for a lane, from the values of the rows before it.
+fn row_value(expressions: &[u32], i: usize, lane: u32, cells: &[u32], values: &[u32]) -> u32
+    requires { ⌜ i < mostExpressions ⌝ }
+    ensures { λ r. ⌜ r ≡ rowBy (now (expressions .entry)) i lane (now (cells .entry)) (now (values .entry)) ⌝ }
 {
+    let kind = at(expressions, 3 * i);
+    let x = at(expressions, 3 * i + 1);
     if kind < Kernel::SUM {
-        return leaf_value(kind, x, held, lane);
+        return leaf_value(kind, x, at(cells, x as usize), lane);
     }
+    let y = at(expressions, 3 * i + 2);
+    let a = operand(values, x, i);
+    let b = operand(values, y, i);
     pair_value(kind, a, b)
 }
 
 // The value of row `root` for a lane, with room for those of the rows before it; what the room holds does not count.
-pub(crate) fn evaluate(
-    expressions: &[u32],
-    root: usize,
-    lane: u32,
-    cells: &[u32],
-    values: &mut [u32],
-) -> u32
+fn evaluate(expressions: &[u32], root: usize, lane: u32, cells: &[u32], values: &mut [u32]) -> u32
     requires { ⌜ (root < mostExpressions) × (root < length (now values)) ⌝ }
     ensures { λ r. ⌜ r ≡ eval (expression (now (expressions .entry)) root) lane (now (cells .entry)) ⌝ }
 {
     let mut i = 0;
     while i <= root {
-        let x = at(expressions, 3 * i + 1);
-        let y = at(expressions, 3 * i + 2);
-        let a = operand(values, x, i);
-        let b = operand(values, y, i);
-        values[i] = row_value(at(expressions, 3 * i), x, a, b, at(cells, x as usize), lane);
+        values[i] = row_value(expressions, i, lane, cells, values);
         i += 1;
     }
     values[root]

@@ -17,14 +17,7 @@ loop-holds : tie.Need-loop-holds Inv-loop μ-loop
 loop-holds c = (omega arith, filled-none _ _ _ _)
 
 loop-again : tie.Need-loop-again Inv-loop μ-loop
-loop-again c =
-    let l = c .before .before .before .before .before .before .before .before .before .before .loop in
-    let a = c .before .before .before .before .before .before .before .before .before .before .before .before .before .before .args in (
-      omega arith,
-      filled-more (a .expressions .now) (a .lane) (a .cells .now) _ (l .values) (l .i) _ _ _ _ _ _ _ (l .inv .1) (omega arith)
-          (c .before .before .at3 .ensures) (c .before .before .before .before .before .before .before .before .at .ensures) (c .before .before .before .before .before .before .before .at2 .ensures)
-          (c .before .before .before .before .before .operand .ensures) (c .before .before .before .operand2 .ensures) (c .before .at4 .ensures) (c .row-value .ensures),
-    )
+loop-again c = (omega arith, filled-more _ _ _ _ _ _ _ (c .before .before .before .loop .inv .1) (omega arith) (c .row-value .ensures))
 
 returns : tie.Need-returns Inv-loop μ-loop
 returns c = in-limit _ _ _ _ _ (omega arith) (c .before .before .loop .inv .1 .past _ (omega arith))
@@ -36,18 +29,6 @@ evaluate-spec =
     Inv-loop
     μ-loop
     loop-holds
-    (λ c. search needs)
-    (λ c. search needs)
-    (λ c κs. search needs)
-    (λ c. search needs)
-    (λ c. search needs)
-    (λ c κs. search needs)
-    (λ c κs. search needs)
-    (λ c κs. search needs)
-    (λ c. search needs)
-    (λ c κs. search needs)
-    (λ c. search needs)
-    (λ c κs. search needs)
     (λ c κs. search needs)
     (λ c. search needs)
     (λ c. search needs)

@@ -1,9 +1,10 @@
-use borrow.Author.Needs.{needs}
-use mathlib.Core.Path.{_≡_, refl, _∙_, ap₂, subst}
-use Prim.Native.Nat.{ℕ, _+_, _-_, _≤_}
+-- `fill_pair` meets its contract: what the loop reads it has not yet written. Assumes nothing.
+use mathlib.Core.Path.{_≡_, refl}
+use Prim.Native.Nat.{ℕ, _-_, _≤_}
 use native.Mathlib.Omega.{arith}
-use lib.ListN.{length, length-set}
-use Rattle.values.specs.Strips.{StripDone}
+use borrow.Author.Needs.{needs}
+use lib.ListN.{length}
+use Rattle.values.specs.Parts.{StripDone}
 use Rattle.values.proofs.Several.{strip-none, pair-more, strip-all}
 use Rattle.values.proofs.wide.fill_pair.Statement.{statement}
 use Rattle.values.proofs.wide.fill_pair.Tie as tie
@@ -17,51 +18,12 @@ abbrev μ-loop : tie.MeasureT-loop
 loop-holds : tie.Need-loop-holds Inv-loop μ-loop
 loop-holds c = (omega arith, refl, λ x held. strip-none)
 
-add-pair-value : tie.Need-add-pair-value Inv-loop μ-loop
-add-pair-value c = search needs
-
-mul-pair-value : tie.Need-mul-pair-value Inv-loop μ-loop
-mul-pair-value c = search needs
-
-slice-read-pair-value : tie.Need-slice-read-pair-value Inv-loop μ-loop
-slice-read-pair-value c = search needs
-
-add-pair-value-2 : tie.Need-add-pair-value-2 Inv-loop μ-loop
-add-pair-value-2 c = search needs
-
-mul-pair-value-2 : tie.Need-mul-pair-value-2 Inv-loop μ-loop
-mul-pair-value-2 c = search needs
-
-slice-read-pair-value-2 : tie.Need-slice-read-pair-value-2 Inv-loop μ-loop
-slice-read-pair-value-2 c = search needs
-
-pair-value-requires : tie.Need-pair-value-requires Inv-loop μ-loop
-pair-value-requires c κs = search needs
-
-add-values : tie.Need-add-values Inv-loop μ-loop
-add-values c = search needs
-
-mul-values : tie.Need-mul-values Inv-loop μ-loop
-mul-values c = search needs
-
-slice-write-values : tie.Need-slice-write-values Inv-loop μ-loop
-slice-write-values c = search needs
-
-add-k : tie.Need-add-k Inv-loop μ-loop
-add-k c = search needs
-
-loop-less : tie.Need-loop-less Inv-loop μ-loop
-loop-less c = search needs
-
 loop-again : tie.Need-loop-again Inv-loop μ-loop
 loop-again c =
     let l = c .before .before .before .before .loop in
     let S = c .before .before .before .before .before .before .pre .1 in
     let t = c .before .before .before .loop-test .taken in
     (omega arith, pair-more (l .inv .2 0 0) S t (c .pair-value .ensures 0 0 _) .long, λ x held. pair-more (l .inv .2 x held) S t (c .pair-value .ensures x held _))
-
-same-length : tie.Need-same-length Inv-loop μ-loop
-same-length c = search needs
 
 returns : tie.Need-returns Inv-loop μ-loop
 returns c = λ x held. strip-all (omega arith) (c .before .loop .inv .2 x held)
@@ -73,18 +35,18 @@ fill-pair-spec =
     Inv-loop
     μ-loop
     loop-holds
-    add-pair-value
-    mul-pair-value
-    slice-read-pair-value
-    add-pair-value-2
-    mul-pair-value-2
-    slice-read-pair-value-2
-    pair-value-requires
-    add-values
-    mul-values
-    slice-write-values
-    add-k
-    loop-less
+    (λ c. search needs)
+    (λ c. search needs)
+    (λ c. search needs)
+    (λ c. search needs)
+    (λ c. search needs)
+    (λ c. search needs)
+    (λ c κs. search needs)
+    (λ c. search needs)
+    (λ c. search needs)
+    (λ c. search needs)
+    (λ c. search needs)
+    (λ c. search needs)
     loop-again
-    same-length
+    (λ c. search needs)
     returns)

@@ -1,5 +1,6 @@
-use borrow.Author.Needs.{needs}
+-- `fill_row` meets its contract: a row has operands or none. Assumes nothing.
 use native.Mathlib.Omega.{arith}
+use borrow.Author.Needs.{needs}
 use Rattle.kernels.specs.Limits.{mostExpressions}
 use Rattle.values.proofs.Several.{strips, leaf-row, pair-row}
 use Rattle.values.proofs.wide.fill_row.Statement.{statement}

