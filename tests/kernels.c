@@ -439,6 +439,18 @@ static void double_up(uint32_t rows)
     }
 }
 
+/* One row more, and a branch on it that lanes take and do not take. */
+static void put_last_branch(void)
+{
+    uint32_t last = draft.expressions++, one = draft.lists++, other = draft.lists++, *row = draft.expression[last];
+    row[0] = LESS;
+    row[1] = last - 1;
+    row[2] = last / 2;
+    put(KERNEL, IF, last, one, other);
+    put(one, ASSIGN, 0, last - 1, 0);
+    put(other, SKIP, 0, 0, 0);
+}
+
 void full_kernel(struct random *random, struct drawn_kernel *kernel)
 {
     uint32_t cells = 1 + below(random, 4), depth = 2 * below(random, 2), rows = STATEMENTS - 1 + below(random, 3), functions = depth > 0 ? below(random, 3) : 0;
@@ -446,12 +458,9 @@ void full_kernel(struct random *random, struct drawn_kernel *kernel)
     draft_lists(random, &style, 60, functions, 0);
     draft.most = rows;
     if (chance(random, 50)) {
-        double_up(EXPRESSIONS - 1 + below(random, 3));
-        uint32_t last = draft.expressions - 1, first_arm = draft.lists++, second_arm = draft.lists++;
-        put(KERNEL, ASSIGN, 0, last, 0);
-        put(KERNEL, IF, last, first_arm, second_arm);
-        put(first_arm, ASSIGN, 0, last / 2, 0);
-        put(second_arm, SKIP, 0, 0, 0);
+        double_up(EXPRESSIONS - 2 + below(random, 3));
+        put(KERNEL, ASSIGN, 0, draft.expressions - 1, 0);
+        put_last_branch();
     }
     uint32_t nobodys = draft.lists++;
     put_many(chance(random, 60) ? KERNEL : chance(random, 50) ? nobodys : 1, rows - draft.rows);
