@@ -1,6 +1,6 @@
 /*
  * The run of a warp as one writes it in C: lists are found once, before the first step; masks are words; an expression's rows are worked out in their order, and only those that
- * its value needs. Nothing of it is proved.
+ * its value needs, for all lanes at once where several are active. Nothing of it is proved.
  */
 #include <string.h>
 
@@ -191,6 +191,11 @@ static void find_needs(uint32_t e)
             p.needs[e][p.needed[e]++] = (uint8_t)i;
 }
 
+static uint32_t highest(uint32_t active)
+{
+    return (uint32_t)(31 - __builtin_clz(active));
+}
+
 static uint32_t value(uint32_t e, uint32_t lane, const uint32_t *cells)
 {
     uint32_t values[ROWS];
@@ -205,22 +210,54 @@ static uint32_t value(uint32_t e, uint32_t lane, const uint32_t *cells)
     return values[e];
 }
 
-static uint32_t act(uint32_t e, uint32_t active, uint32_t lanes, const uint32_t *cells)
+/* A row for all lanes, in loops that the compiler takes several lanes of at a time. */
+static void fill(uint32_t values[][LANES], uint32_t i, const uint32_t *cells)
 {
-    uint32_t mask = 0;
-    for (uint32_t lane = 0; lane < lanes; lane++)
-        if (active >> lane & 1 && value(e, lane, cells) != 0)
-            mask |= (uint32_t)1 << lane;
-    return mask;
+    struct term term = p.terms[i];
+    uint32_t *to = values[i], x = term.kind == CELL ? cells[term.x] : term.x;
+    const uint32_t *a = values[term.kind < SUM ? i : term.x], *b = values[term.kind < SUM ? i : term.y];
+    switch (term.kind) {
+    case NUMBER:
+    case CELL:
+        for (uint32_t lane = 0; lane < LANES; lane++)
+            to[lane] = x;
+        break;
+    case LANE:
+        for (uint32_t lane = 0; lane < LANES; lane++)
+            to[lane] = lane;
+        break;
+    case SUM:
+        for (uint32_t lane = 0; lane < LANES; lane++)
+            to[lane] = a[lane] + b[lane];
+        break;
+    case DIFFERENCE:
+        for (uint32_t lane = 0; lane < LANES; lane++)
+            to[lane] = a[lane] - b[lane];
+        break;
+    default:
+        for (uint32_t lane = 0; lane < LANES; lane++)
+            to[lane] = a[lane] < b[lane];
+    }
+}
+
+static uint32_t act(uint32_t e, uint32_t active, const uint32_t *cells)
+{
+    uint32_t values[ROWS][LANES], mask = 0;
+    if ((active & (active - 1)) == 0)
+        return value(e, highest(active), cells) != 0 ? active : 0;
+    if (p.needed[e] == 0)
+        find_needs(e);
+    for (int k = 0; k < p.needed[e]; k++)
+        fill(values, p.needs[e][k], cells);
+    for (uint32_t lane = 0; lane < LANES; lane++)
+        mask |= (uint32_t)(values[e][lane] != 0) << lane;
+    return active & mask;
 }
 
 /* All read one memory and the highest lane's value stays: so only that lane's is worked out. */
 static uint32_t last_value(uint32_t e, uint32_t active, const uint32_t *cells)
 {
-    uint32_t lane = LANES - 1;
-    while ((active >> lane & 1) == 0)
-        lane--;
-    return value(e, lane, cells);
+    return value(e, highest(active), cells);
 }
 
 /* ---- the run */
@@ -280,7 +317,7 @@ static void take_token(struct run *run, struct entry token)
 
 static void take_branch(struct run *run, uint32_t row, const uint32_t *cells)
 {
-    uint32_t taken = act(p.rows[row].x, run->active, run->lanes, cells);
+    uint32_t taken = act(p.rows[row].x, run->active, cells);
     push(run, SYNC, run->active);
     push_list(run, p.body[row][0]);
     push(run, DIV, taken);
@@ -294,7 +331,7 @@ static void take_loop(struct run *run, uint32_t row, int is_again, const uint32_
         push(run, BRK, run->active);
     push(run, AGAIN, row);
     push_list(run, p.body[row][0]);
-    run->active = act(p.rows[row].x, run->active, run->lanes, cells);
+    run->active = act(p.rows[row].x, run->active, cells);
 }
 
 static void leave(struct run *run, uint32_t *disabled)

@@ -1,5 +1,6 @@
 /*
  * How long a step of a warp takes in the archive, and how long ordinary C (bench/plain_warp.c) takes for the same. bench/README.md tells the method and what it does not say.
+ * Built with BEFORE, over a second archive whose functions have `before_` put before their names: also how long that one takes.
  * Every answer is checked; a wrong one ends the program with status 1. No time does.
  */
 #define _POSIX_C_SOURCE 199309L
@@ -11,11 +12,19 @@
 #include "../include/probe.h"
 #include "plain_warp.h"
 
+/* The header once more, for the function of the second archive. */
+#ifdef BEFORE
+#undef PROBE_H
+#define probe_warp before_probe_warp
+#include "../include/probe.h"
+#undef probe_warp
+#endif
+
 enum { CELLS = 64, ANSWER = 36, ROWS = 256, STEPS = 10000, FILLING = 0xa5 };
 enum { SKIP, ASSIGN, IF, WHILE, BREAK, CALL, RETURN };
 enum { NUMBER, CELL, LANE, SUM, DIFFERENCE, LESS };
 enum { KINDS = 5, SIZES = 2, ROUNDS = 41 };
-enum part { OURS, PLAIN, OURS_CHECK, PLAIN_CHECK, PARTS };
+enum part { OURS, PLAIN, OURS_CHECK, PLAIN_CHECK, EARLIER, PARTS };
 static const uint32_t sizes[SIZES] = {1, 32}; /* lanes */
 static const double SAMPLE = 0.002;          /* seconds: a sample repeats its call until so much is spent */
 
@@ -128,12 +137,17 @@ static uint32_t run(__typeof__(&probe_warp) door, const struct task *task, uint6
 
 static uint64_t steps_of(enum part part)
 {
-    return part == OURS || part == PLAIN ? STEPS : 0;
+    return part == OURS_CHECK || part == PLAIN_CHECK ? 0 : STEPS;
 }
 
 static uint32_t call(enum part part, const struct task *task)
 {
-    return run(part == OURS || part == OURS_CHECK ? probe_warp : plain_warp, task, steps_of(part));
+    __typeof__(&probe_warp) door = part == PLAIN || part == PLAIN_CHECK ? plain_warp : probe_warp;
+#ifdef BEFORE
+    if (part == EARLIER)
+        door = before_probe_warp;
+#endif
+    return run(door, task, steps_of(part));
 }
 
 /* Both leave the same cells and answers. */
@@ -229,6 +243,19 @@ static void print_method(void)
     printf("Compare ratios only: the figures in brackets are this machine's, at this hour.\n");
 }
 
+/* The older archive's time, or this one's once more where there is none. */
+static void print_earlier(void)
+{
+#ifdef BEFORE
+    printf("\nA step: the time by the archive before, as a ratio to the time now\n");
+#else
+    printf("\nA step: the same archive's time once more, as a ratio to the first: what ratios near 1 are worth\n");
+#endif
+    printf("%-12s%9s%9s\n", "", "1 lane", "32 lanes");
+    for (int kind = 0; kind < KINDS; kind++)
+        printf("%-12s%9.2f%9.2f\n", kinds[kind].name, ratio(times[kind][0][EARLIER], times[kind][0][OURS]), ratio(times[kind][1][EARLIER], times[kind][1][OURS]));
+}
+
 /* One row a kernel: ordinary C's time as a ratio to ours by 1 lane and by 32, our time by 32 lanes as a ratio to that by 1, and ours in nanoseconds. */
 static void print_steps(void)
 {
@@ -261,6 +288,7 @@ int main(void)
         take_round(round);
     print_method();
     print_steps();
+    print_earlier();
     print_checks();
     return 0;
 }
