@@ -23,10 +23,11 @@ pub fn at(numbers: &[u32], i: usize) -> u32
 
 // The value of an operand, if it is an earlier row, or 0.
 fn operand(values: &[u32], x: u32, i: usize) -> u32
+    requires { ⌜ i ≤ length (now values) ⌝ }
     ensures { λ r. ⌜ r ≡ cond (ltb x i) (getD (now (values .entry)) x 0) 0 ⌝ }
 {
     if (x as usize) < i {
-        return at(values, x as usize);
+        return values[x as usize];
     }
     0
 }
@@ -61,7 +62,7 @@ pub(crate) fn pair_value(kind: u32, a: u32, b: u32) -> u32
 
 // Row i for a lane, from the values of the rows before it.
 fn row_value(expressions: &[u32], i: usize, lane: u32, cells: &[u32], values: &[u32]) -> u32
-    requires { ⌜ i < mostExpressions ⌝ }
+    requires { ⌜ (i < mostExpressions) × (i < length (now values)) ⌝ }
     ensures { λ r. ⌜ r ≡ rowBy (now (expressions .entry)) i lane (now (cells .entry)) (now (values .entry)) ⌝ }
 {
     let kind = at(expressions, 3 * i);
