@@ -10,6 +10,13 @@ use crate::rows::value;
 use crate::wide::fill_rows;
 use kernels::Kernel;
 
+// Sizes of the room for values. An empty room costs time, so that the smallest that serves is taken; the last is for every row and lane.
+const SMALL: usize = 256;
+
+const MIDDLE: usize = 2048;
+
+const FULL: usize = 8192;
+
 // How many lanes there are up to the highest of a mask.
 fn lane_count(mask: u32) -> u32
     ensures { λ r. ⌜ (mask < 2 ^ r) × (r ≤ 32) ⌝ }
@@ -18,7 +25,7 @@ fn lane_count(mask: u32) -> u32
 }
 
 // A mask of one lane, if row `root` is not 0 for it.
-fn acting_one(expressions: &[u32], root: usize, lane: u32, mask: u32, cells: &[u32]) -> u32
+fn acting_alone(expressions: &[u32], root: usize, lane: u32, mask: u32, cells: &[u32]) -> u32
     ensures { λ r. ⌜ r ≡ cond (test (expression (now (expressions .entry)) root) lane (now (cells .entry))) mask 0 ⌝ }
 {
     if value(expressions, root, lane, cells) != 0 {
@@ -53,21 +60,21 @@ fn acting_in(
     found
 }
 
-// The same, in a room of its own. A small room is emptied sooner, so that the smallest that serves is taken.
+// The same, in a room of its own.
 fn acting_several(expressions: &[u32], root: usize, mask: u32, count: u32, cells: &[u32]) -> u32
     requires { ⌜ (root < mostExpressions) × (count ≤ 32) ⌝ }
     ensures { λ r. ⌜ r ≡ acting mask (expression (now (expressions .entry)) root) (now (cells .entry)) count ⌝ }
 {
     let needed = (root + 1) * (count as usize);
-    if needed <= 256 {
-        let mut values = [0u32; 256];
+    if needed <= SMALL {
+        let mut values = [0u32; SMALL];
         return acting_in(expressions, root, mask, count, cells, &mut values);
     }
-    if needed <= 2048 {
-        let mut values = [0u32; 2048];
+    if needed <= MIDDLE {
+        let mut values = [0u32; MIDDLE];
         return acting_in(expressions, root, mask, count, cells, &mut values);
     }
-    let mut values = [0u32; 8192];
+    let mut values = [0u32; FULL];
     acting_in(expressions, root, mask, count, cells, &mut values)
 }
 
@@ -83,7 +90,7 @@ pub fn acting_lanes(expressions: &[u32], root: usize, mask: u32, cells: &[u32]) 
         return 0;
     }
     if mask == 1u32 << (count - 1) {
-        return acting_one(expressions, root, count - 1, mask, cells);
+        return acting_alone(expressions, root, count - 1, mask, cells);
     }
     acting_several(expressions, root, mask, count, cells)
 }

@@ -11,6 +11,9 @@ ghost use Rattle.values.specs.Expressions.{expression};
 ghost use Rattle.values.specs.Parts.{valueBy, rowBy};
 use kernels::Kernel;
 
+// Few rows have a small room, which is sooner empty.
+const FEW: usize = 32;
+
 // The number at a place, or 0 past the end.
 pub fn at(numbers: &[u32], i: usize) -> u32
     ensures { λ r. ⌜ r ≡ getD (now (numbers .entry)) i 0 ⌝ }
@@ -89,12 +92,12 @@ fn evaluate(expressions: &[u32], root: usize, lane: u32, cells: &[u32], values: 
     values[root]
 }
 
-// The value of row `root` for a lane, or 0 past the limit. A small room is emptied sooner.
+// The value of row `root` for a lane, or 0 past the limit.
 pub fn value(expressions: &[u32], root: usize, lane: u32, cells: &[u32]) -> u32
     ensures { λ r. ⌜ r ≡ eval (expression (now (expressions .entry)) root) lane (now (cells .entry)) ⌝ }
 {
-    if root < 32 {
-        let mut values = [0u32; 32];
+    if root < FEW {
+        let mut values = [0u32; FEW];
         return evaluate(expressions, root, lane, cells, &mut values);
     }
     if root < Kernel::EXPRESSIONS {

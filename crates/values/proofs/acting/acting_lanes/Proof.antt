@@ -18,7 +18,7 @@ returns-3 : tie.Need-returns-3
 returns-3 c =
     let b = c .before .before in
     let n = b .before .lane-count .ensures in
-    acting-alone _ _ _ _ _ (b .if2 .left) (n .1) (n .0) (c .before .if3 .taken) (c .acting-one .ensures)
+    acting-alone _ _ _ _ _ (b .if2 .left) (n .1) (n .0) (c .before .if3 .taken) (c .acting-alone .ensures)
 
 acting-several-requires : tie.Need-acting-several-requires
 unfolding mostExpressions
