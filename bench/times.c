@@ -1,5 +1,5 @@
 /*
- * Where the time of a review goes, how it grows with the number of commands, and how long ordinary C (bench/plain.c) takes for the same.
+ * Where the time of a review goes, how it grows with the number of commands, what a step of the schedule writer and of the replay takes, and how long ordinary C (bench/plain.c) takes for the same.
  * bench/README.md tells the method and what it does not say.
  * Built with BEFORE, over a second archive whose functions have `before_` put before their names: also how long that one takes. With BARE as well, its review
  * has no evidence slice, as before request 2026-04, and is named `bare_probe_review`.
@@ -69,7 +69,7 @@ enum { ANSWER = 36, ENTRIES = 3, PAIRS = 4, TEXT = 32768, FILLING = 0xa5 };
 enum { ARRIVE = 2, SYNC = 3 };
 enum { KINDS = 6, SIZES = 4, LAST = SIZES - 1, ROUNDS = 41 };
 enum { NOW, THEN, ARCHIVES = sizeof archives / sizeof *archives };
-enum part { READING, WRITING, REPLAY, REVIEW, ORDINARY, PARTS };
+enum part { READING, WRITING, REPLAY, REVIEW, ORDINARY, WRITING_FRONT, REPLAY_FRONT, PLAIN_REPLAY, PARTS };
 static const double SAMPLE = 0.002; /* seconds: a sample repeats its call until so much is spent */
 
 /* What a review writes and document 01 leaves no choice of; the evidence stands apart. */
@@ -84,6 +84,7 @@ struct task {
     size_t bytes;
     char text[TEXT];
     uint32_t commands[3 * COMMANDS], lengths[THREADS], schedule[COMMANDS];
+    uint32_t stopping[3 * COMMANDS], stopped[COMMANDS]; /* commands whose second mismatches; the writer's two steps of them */
     struct rooms rooms, first; /* lent to each call; as the first review left them */
     uint32_t evidence[EVIDENCE];
 };
@@ -218,6 +219,11 @@ static uint32_t review(__typeof__(&probe_review) door, struct task *task, size_t
                 task->rooms.generations, COMMANDS, task->evidence, EVIDENCE, task->rooms.answer, ANSWER);
 }
 
+static uint32_t write_steps(__typeof__(&probe_schedule) door, struct task *task, const uint32_t *commands, uint32_t *room)
+{
+    return door(commands, 3 * task->rows, task->lengths, task->threads, room, COMMANDS, task->rooms.answer, ANSWER);
+}
+
 static uint32_t call(int archive, enum part part, struct task *task)
 {
     switch (part) {
@@ -225,10 +231,15 @@ static uint32_t call(int archive, enum part part, struct task *task)
         return archives[archive].read((const uint8_t *)task->text, task->bytes, task->commands, 3 * COMMANDS, task->lengths,
                                       THREADS, task->rooms.answer, ANSWER);
     case WRITING:
-        return archives[archive].schedule(task->commands, 3 * task->rows, task->lengths, task->threads, task->schedule,
-                                          COMMANDS, task->rooms.answer, ANSWER);
+        return write_steps(archives[archive].schedule, task, task->commands, task->schedule);
+    case WRITING_FRONT:
+        return write_steps(archives[archive].schedule, task, task->stopping, task->stopped);
     case REPLAY:
         return review(archives[archive].review, task, task->rows - 1);
+    case REPLAY_FRONT:
+        return review(archives[archive].review, task, 0);
+    case PLAIN_REPLAY:
+        return review(plain_review, task, task->rows - 1);
     case REVIEW:
         return review(archives[archive].review, task, task->rows);
     default:
@@ -238,7 +249,7 @@ static uint32_t call(int archive, enum part part, struct task *task)
 
 static uint32_t answered(enum part part, const struct task *task)
 {
-    const uint32_t answers[PARTS] = {0, 0, 6, task->kind->verdict, task->kind->verdict};
+    const uint32_t verdict = task->kind->verdict, answers[PARTS] = {0, 0, 6, verdict, verdict, 0, 6, 6};
     return answers[part];
 }
 
@@ -339,14 +350,26 @@ static void try_closing(int archive, struct task *task)
     expect(task, "closed edges equal to the review's table", (uint32_t)same, 1);
 }
 
-static void try_archive(int archive, struct task *task)
+/* Also makes the commands whose second mismatches: two of the first thread, which is the lowest. */
+static void try_reading(int archive, struct task *task)
 {
+    static const uint32_t stop[2][3] = {{ARRIVE, 0, 2}, {ARRIVE, 0, 3}};
     try_part(archive, task, READING, "the number of commands", task->rows, 2);
     expect(task, "the number of threads", task->rooms.answer[3], task->threads);
     for (uint32_t t = 0; t < task->threads; t++)
         expect(task, "a thread's length", task->lengths[t], task->length);
+    memcpy(task->stopping, task->commands, sizeof task->commands);
+    memcpy(task->stopping, stop, sizeof stop);
+}
+
+static void try_archive(int archive, struct task *task)
+{
+    try_reading(archive, task);
+    try_part(archive, task, WRITING_FRONT, "the length of a schedule that ends at its second step", 2, 2);
     try_part(archive, task, WRITING, "the schedule's length", task->rows, 2);
+    try_part(archive, task, REPLAY_FRONT, "no steps given", 0, 0);
     try_part(archive, task, REPLAY, "the number of steps given", task->rows - 1, 0);
+    try_part(archive, task, PLAIN_REPLAY, "the number of steps given to ordinary C", task->rows - 1, 0);
     try_review(archive, task, REVIEW, "the same rooms by both archives");
     try_review(archive, task, ORDINARY, "the same rooms by ordinary C");
     try_closing(archive, task);
@@ -389,12 +412,18 @@ static double sample(int archive, enum part part, struct task *task)
     return spent / calls;
 }
 
-/* Only what is printed: of an archive before its review, and reading and writing at the last size. */
+/* The writer and the replay by an archive, and what each does before its first step. */
+static int is_of_steps(int part)
+{
+    return part == WRITING || part == WRITING_FRONT || part == REPLAY || part == REPLAY_FRONT;
+}
+
+/* Only what is printed: at the last size everything but an older archive's reading, at the others the reviews and the replay now. */
 static int is_timed(int archive, int size, int part)
 {
     if (archive == THEN)
-        return part == REVIEW;
-    return size == LAST || (part != READING && part != WRITING);
+        return part == REVIEW || (size == LAST && is_of_steps(part));
+    return size == LAST || part == REPLAY || part == REVIEW || part == ORDINARY;
 }
 
 /* One round takes a sample of everything, those that are compared side by side, so that a change of the machine's load meets all alike. */
@@ -445,6 +474,7 @@ static void print_method(void)
     printf("reading: probe_read. writing: probe_schedule. review: probe_review with the written schedule.\n");
     printf("replay: the same review without the schedule's last step, which stops at verdict 6.\n");
     printf("order and faults: the rest of the review. ordinary C: plain_review, the whole review, built at -O3.\n");
+    printf("before the first step: what a call takes that makes no step (replay), or two, the second a mismatch (writer).\n");
     printf("All reviews of a text left the same answer, sheet, table and generations; its edges, closed by probe_close, were that table.\n");
     printf("Reviews of reuse and race write evidence, ordinary C's too; each schedule of it was reviewed, and showed the verdict.\n");
     printf("A share or ratio is taken within each round; the median over the rounds is printed.\n");
@@ -506,6 +536,88 @@ static void print_ratios(const char *title, int archive, enum part part, double 
     }
 }
 
+/* ---- the writer and the replay by themselves */
+
+/* A call, what it does before its first step, and how many steps it makes. */
+static const struct stepper {
+    const char *name;
+    enum part whole, front;
+    uint32_t steps;
+} steppers[] = {{"writer", WRITING, WRITING_FRONT, COMMANDS}, {"replay", REPLAY, REPLAY_FRONT, COMMANDS - 1}};
+enum { STEPPERS = sizeof steppers / sizeof *steppers };
+
+/* The kinds one after the other, and the mean of these figures. */
+static void print_line(const char *name, const double values[KINDS], int decimals)
+{
+    double sum = 0;
+    printf("%-24s", name);
+    for (int kind = 0; kind < KINDS; kind++) {
+        printf("%9.*f", decimals, values[kind]);
+        sum += values[kind];
+    }
+    printf("%9.*f\n", decimals, sum / KINDS);
+}
+
+static void print_kinds(const char *title)
+{
+    printf("\n%s\n%-24s", title, "");
+    for (int kind = 0; kind < KINDS; kind++)
+        printf("%9s", kinds[kind].name);
+    printf("%9s\n", "mean");
+}
+
+static void take_off(const double *whole, const double *front, double *rest)
+{
+    for (int round = 0; round < ROUNDS; round++)
+        rest[round] = whole[round] - front[round];
+}
+
+static void print_nanoseconds(const char *name, enum part part, uint32_t steps)
+{
+    double values[KINDS];
+    for (int kind = 0; kind < KINDS; kind++)
+        values[kind] = 1e9 * median(times[NOW][kind][LAST][part]) / steps;
+    print_line(name, values, 1);
+}
+
+/* The times of one part as ratios to those of another now. */
+static void print_beside(const char *name, int archive, enum part part, enum part now)
+{
+    double values[KINDS];
+    for (int kind = 0; kind < KINDS; kind++)
+        values[kind] = ratio(times[archive][kind][LAST][part], times[NOW][kind][LAST][now]);
+    print_line(name, values, 2);
+}
+
+static void print_steps_beside(const char *name, enum part whole, enum part front)
+{
+    double values[KINDS], before[ROUNDS], now[ROUNDS];
+    for (int kind = 0; kind < KINDS; kind++) {
+        take_off(times[THEN][kind][LAST][whole], times[THEN][kind][LAST][front], before);
+        take_off(times[NOW][kind][LAST][whole], times[NOW][kind][LAST][front], now);
+        values[kind] = ratio(before, now);
+    }
+    print_line(name, values, 2);
+}
+
+static void print_steppers(void)
+{
+    print_kinds("The writer and the replay, 512 commands (nanoseconds a step)");
+    for (const struct stepper *it = steppers; it < steppers + STEPPERS; it++) {
+        print_nanoseconds(it->name, it->whole, it->steps);
+        print_nanoseconds("  before the first step", it->front, it->steps);
+    }
+    print_kinds("Ordinary C's time for the replay, 512 commands, as a ratio to ours");
+    print_beside("replay", NOW, PLAIN_REPLAY, REPLAY);
+    if (ARCHIVES == 1)
+        return;
+    print_kinds("The writer's and the replay's time by the archive before, 512 commands, as a ratio to the time now");
+    for (const struct stepper *it = steppers; it < steppers + STEPPERS; it++) {
+        print_beside(it->name, THEN, it->whole, it->whole);
+        print_steps_beside("  the steps alone", it->whole, it->front);
+    }
+}
+
 int main(void)
 {
     for (int kind = 0; kind < KINDS; kind++)
@@ -522,5 +634,6 @@ int main(void)
         print_ratios("The review's time by the archive before, which writes no evidence, as a ratio to the time now", THEN, REVIEW, 1, 2);
     else if (ARCHIVES > 1)
         print_ratios("The review's time by the archive before, as a ratio to the time now", THEN, REVIEW, 1, 2);
+    print_steppers();
     return 0;
 }

@@ -1,4 +1,4 @@
-# Sourced by .ci/run, tests/run, tests/long and bench/run at the top of the repository: what builds and runs C code over the archives. These are for x86-64; on another machine
+# Sourced by .ci/run, tests/run, tests/long, tests/same and bench/run at the top of the repository: what builds and runs C code over the archives. These are for x86-64; on another machine
 # Debian's cross compiler builds, statically, and an emulator runs what it built, as the plainest machine of that kind, which is what the archives are made for.
 # shellcheck shell=bash disable=SC2034
 if [ "$(uname -m)" = x86_64 ]; then
@@ -46,22 +46,24 @@ make_archives() {
   return "$failed"
 }
 
+# What the programs that compare are linked with; tests/same puts both archives in two builds in its place.
+archives=(target/staticlib/libprobe.a target/staticlib/libdesk.a)
+
 # build_compare PROGRAM: the comparison with the reference, over both archives. Its files are compiled as one, since it plays millions of schedules step by step.
 build_compare() {
   "${cc[@]}" -std=c99 -pedantic -Wall -Wextra -Werror -O2 -flto -o "$1" tests/compare.c tests/reference.c tests/evidence.c tests/printed.c tests/schedules.c tests/call.c tests/lent.c \
-    tests/inputs.c target/staticlib/libprobe.a target/staticlib/libdesk.a
+    tests/inputs.c "${archives[@]}"
 }
 
 # build_files PROGRAM: the comparison of the reviews of one program with each other.
 build_files() {
-  "${cc[@]}" -std=c99 -pedantic -Wall -Wextra -Werror -O2 -flto -o "$1" tests/files.c tests/reference.c tests/call.c tests/lent.c tests/inputs.c \
-    target/staticlib/libprobe.a target/staticlib/libdesk.a
+  "${cc[@]}" -std=c99 -pedantic -Wall -Wextra -Werror -O2 -flto -o "$1" tests/files.c tests/reference.c tests/call.c tests/lent.c tests/inputs.c "${archives[@]}"
 }
 
 # build_warps PROGRAM: the comparison of the run of a warp with the reference of document 001.
 build_warps() {
   "${cc[@]}" -std=c99 -pedantic -Wall -Wextra -Werror -O2 -flto -o "$1" tests/warps.c tests/warp.c tests/threads.c tests/kernels.c tests/reference.c tests/call.c tests/lent.c tests/inputs.c \
-    target/staticlib/libprobe.a
+    "${archives[@]}"
 }
 
 # compare_both PROGRAM FOLDER SEED COUNT: two processes side by side, with this seed and the next; one line with the figures of both. At a difference, what they said.

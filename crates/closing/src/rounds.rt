@@ -24,7 +24,9 @@ fn join_if(room: &mut [u32], m: u32, i: u32, k: u32)
 // Row k is joined into the rows from `first` to before `end` that have bit k: a round over an old room that had come to `first` comes to `end`.
 fn join_rows(room: &mut [u32], m: u32, k: u32, first: u32, end: u32)
     requires { ⌜ (words m ≤ length (now room)) × (k < m) × (first ≤ end) × (end ≤ m) ⌝ }
-    ensures { λ r. ⌜ ((old : List ℕ) → RowsAre old (now (room .entry)) (width m) first (joinedIf old (width m) k) → RowsAre old (now (room .exit)) (width m) end (joinedIf old (width m) k)) ⌝ }
+    ensures { λ r.
+        ⌜ ((old : List ℕ) → RowsAre old (now (room .entry)) (width m) first (joinedIf old (width m) k)
+        → RowsAre old (now (room .exit)) (width m) end (joinedIf old (width m) k)) ⌝ }
 {
     let mut i = first;
     while i < end {

@@ -9,9 +9,12 @@ use native.Mathlib.Decide.{decLt}
 use lib.ListN.{length}
 use borrow.Author.Tests.{eq-eqb, ne-eqb}
 use Rattle.tables.specs.Limits.{mostRows, mostThreads}
-use Rattle.tables.specs.Rules.{Keeps, checked}
+use Rattle.rules.specs.Rules.{Keeps, checked}
+use Rattle.verdicts.specs.Numbers.{fills, isComplete, isUnread}
 use Rattle.verdicts.specs.declared.Told.{Told}
-use Rattle.tables.proofs.Rules.{kept, passes, passes-zero}
+use Rattle.verdicts.proofs.Numbers.{settles-complete, disagrees-complete, unread-incomplete}
+use Rattle.relation.proofs.Truth.{clashing}
+use Rattle.rules.proofs.Rules.{kept, passes, passes-zero}
 use Rattle.spelling.specs.Machine.{Outcome, flat}
 use Rattle.notation.specs.declared.reading.Reading.{Reading}
 use Rattle.notation.specs.declared.reading.Reading.the-variants.{Unfit, Over, Accepted}
@@ -24,7 +27,6 @@ use Rattle.replay.specs.Writer.{schedule}
 use Rattle.replay.specs.Schedules.{Complete}
 use Rattle.replay.proofs.Writing.{schedule-complete}
 use Rattle.sheet.specs.Sheet.{sheetOf}
-use Rattle.review.specs.Judge.{fills}
 use Rattle.review.specs.Agreement.{Judges}
 use Rattle.review.proofs.Judging.{judges}
 use Rattle.review.proofs.Bounds.{refused-checked, passed-told, complete-number}
@@ -90,9 +92,9 @@ module _ (text : List ℕ) where
         subst (Judges (numbers x) (listingLengths x) σ) (ap (λ (t : Told). t .number) (sym (denoted-told x (S .denotes) (S .within) ∙ passed-told (numbers x) (listingLengths x) passed σ)))
         (judges keeps σ)
 
-    reviewable-number : (number ≡ 0) ⊎ ((7 ≤ number) × (number ≤ 11))
+    reviewable-number : isComplete number ≡ true
     reviewable-number =
-        subst (λ (t : Told). (t .number ≡ 0) ⊎ ((7 ≤ t .number) × (t .number ≤ 11))) (sym (denoted-told x (S .denotes) (S .within)))
+        subst (λ (t : Told). isComplete (t .number) ≡ true) (sym (denoted-told x (S .denotes) (S .within)))
         (complete-number (numbers x) (listingLengths x) passed σ complete)
 
   -- what a text is
@@ -123,42 +125,40 @@ module _ (text : List ℕ) where
           (listing-checked x (w .few-rows) (w .few-threads))
 
   -- a reviewable text's number is none of a refusal's
-  not-refused : (number ≡ 0) ⊎ ((7 ≤ number) × (number ≤ 11)) → (number ≡ 3) ⊎ (12 ≤ number) → ⊥
-  not-refused (inl e) (inl z) = omega arith
-  not-refused (inl e) (inr z) = omega arith
-  not-refused (inr (a, b)) (inl z) = omega arith
-  not-refused (inr (a, b)) (inr z) = omega arith
+  not-refused : isComplete number ≡ true → (number ≡ 3) ⊎ (isUnread number ≡ true) → ⊥
+  not-refused h (inl e) = clashing h (ap isComplete e)
+  not-refused h (inr u) = clashing h (unread-incomplete number u)
 
   -- where a number is one of a reviewable text's, the text is reviewable
-  is-reviewable : (number ≡ 0) ⊎ ((7 ≤ number) × (number ≤ 11)) → (x : Listing) × Reviewable text x
+  is-reviewable : isComplete number ≡ true → (x : Listing) × Reviewable text x
   is-reviewable h = by kind
     where
       by : Kind → (x : Listing) × Reviewable text x
       by (reviewable x S) = (x, S)
       by (broken e _ _ _) = absurd (not-refused h (inl e))
-      by (unread e _) = absurd (not-refused h (inr (omega arith)))
-      by (over e _) = absurd (not-refused h (inr (omega arith)))
+      by (unread e _) = absurd (not-refused h (inr (rw e)))
+      by (over e _) = absurd (not-refused h (inr (rw e)))
 
   pub text-judged : JudgesText text number
   text-judged =
       record {
         agreement = (
           λ h.
-              let (x, S) = is-reviewable (⊎-elim inl (λ (e : number ≡ 11). inr (omega arith, omega arith)) h) in
+              let (x, S) = is-reviewable (settles-complete number h) in
               (x, S, reviewable-judges S .agreement .0 h .1),
           λ (x, S, A). reviewable-judges S .agreement .1 (complete S, A),
         );
         order = (
           λ h.
-              let (x, S) = is-reviewable (inl h) in
+              let (x, S) = is-reviewable (rw h) in
               let (_, A, O) = reviewable-judges S .order .0 h in
               (x, S, A, O),
           λ (x, S, A, O). reviewable-judges S .order .1 (complete S, A, O),
         );
         disagreement =
-            λ a b.
-            let (x, S) = is-reviewable (inr (a, omega arith)) in
-            (x, S, reviewable-judges S .disagreement a b);
+            λ d.
+            let (x, S) = is-reviewable (disagrees-complete number d) in
+            (x, S, reviewable-judges S .disagreement d);
       }
 
   -- what is not within the limits
@@ -177,18 +177,18 @@ module _ (text : List ℕ) where
       by (reviewable x S) =
           let h = reviewable-number S in
           record {
-            some = ⊎-elim inl (λ (l : (7 ≤ number) × (number ≤ 11)). inr (inr (l .0, omega (arith, l .1)))) h;
+            some = inl h;
             broken = λ z. absurd (not-refused h (inl z));
-            unfit = λ z. absurd (not-refused h (inr (omega arith)));
-            too-much = λ z. absurd (not-refused h (inr (omega arith)));
+            unfit = λ z. absurd (not-refused h (inr (rw z)));
+            too-much = λ z. absurd (not-refused h (inr (rw z)));
           }
       by (broken e x d q) =
           record { some = inr (inl e); broken = λ _. (x, d, q); unfit = λ z. absurd (omega arith); too-much = λ z. absurd (omega arith) }
       by (unread e r) =
-          record { some = inr (inr (omega arith, omega arith)); broken = λ z. absurd (omega arith); unfit = λ _. r; too-much = λ z. absurd (omega arith) }
+          record { some = inr (inr (rw e)); broken = λ z. absurd (omega arith); unfit = λ _. r; too-much = λ z. absurd (omega arith) }
       by (over e s) =
           record {
-            some = inr (inr (omega arith, omega arith));
+            some = inr (inr (rw e));
             broken = λ z. absurd (omega arith);
             unfit = λ z. absurd (omega arith);
             too-much =

@@ -1,7 +1,7 @@
 -- What is printed of evidence for a text is that of its definition, has room, and is so. Assumes nothing.
 use mathlib.Core.Path.{_≡_, refl, sym, ap, ap₂, _∙_, subst}
 use mathlib.Core.Logic.{_⊎_, inl, inr, ⊎-elim, by-cases, _≢_}
-use mathlib.Core.Bool.{true}
+use mathlib.Core.Bool.{true, false}
 use mathlib.Core.List.{List, _++_}
 use Prim.Native.Nat.{ℕ, _+_, _*_, _≤_, _<_}
 use native.Mathlib.Decide.{ℕ-discrete, decLt}
@@ -10,26 +10,29 @@ use lib.ListN.{length, getD, take, length-append}
 use borrow.Author.Tests.{eq-eqb, ne-eqb}
 use Rattle.tables.specs.Limits.{mostRows}
 use Rattle.tables.specs.Rows.{rows}
+use Rattle.verdicts.specs.Numbers.{hasPairs, fills, isUnread}
 use Rattle.verdicts.specs.declared.Told.{Told}
+use Rattle.verdicts.proofs.Numbers.{pairs-fill, refusal-unfilled, unread-unfilled, no-pairs}
 use Rattle.relation.specs.Table.{words, related}
+use Rattle.relation.proofs.Truth.{clashing, split}
 use Rattle.notation.specs.declared.reading.Reading.{Reading}
 use Rattle.notation.specs.declared.reading.Reading.the-variants.{Unfit, Over, Accepted}
 use Rattle.replay.specs.Writer.{schedule}
-use Rattle.replay.specs.Replay.{played}
-use Rattle.replay.specs.Ending.{judged}
-use Rattle.replay.specs.InOrder.{orElse}
-use Rattle.replay.proofs.Refusals.{or-first, or-second}
+use Rattle.steps.specs.Going.{played}
+use Rattle.steps.specs.Ending.{judged}
+use Rattle.verdicts.specs.InOrder.{orElse}
+use Rattle.verdicts.proofs.InOrder.{or-first, or-second}
 use Rattle.replay.proofs.Places.{generation-placed}
 use Rattle.replay.proofs.Plays.{clean-through}
 use Rattle.sheet.specs.declared.Sheet.{Sheet}
 use Rattle.sheet.specs.Sheet.{pair, keptPairs}
 use Rattle.rooms.specs.Refusals.{refused}
 use Rattle.rooms.specs.Rooms.{numberAt}
-use Rattle.rooms.proofs.Refusals.{admitted, refused-small}
+use Rattle.rooms.proofs.Refusals.{admitted}
 use Rattle.order.proofs.Reaching.{related-reaches}
 use Rattle.findings.specs.Findings.{faultTold}
-use Rattle.review.specs.Judge.{verdictOf, generations, reaches, fills}
-use Rattle.review.proofs.Bounds.{number-small}
+use Rattle.review.specs.Judge.{verdictOf, generations, reaches}
+use Rattle.review.proofs.Reviews.{refused-refusal}
 use Rattle.review.proofs.Rooms.{put-front}
 use Rattle.evidence.proofs.Verdicts as verdicts
 use Rattle.evidence.proofs.Verdicts.{Gives, ten-commands, ten-disputes, eleven-commands, eleven-orders}
@@ -47,25 +50,29 @@ use Rattle.report.specs.Report.{report}
 use Rattle.desk.specs.Promise.{leastRoom}
 use Rattle.desk.specs.Rooms.{FilledRooms, Concludes}
 use Rattle.desk.specs.Evidence.{leastEvidence, commandsOf, lengthsOf, offered, generationsOf, reachesOf, textExhibits, Against, BothOrders, TextEvidenced}
-use Rattle.desk.proofs.Tabled.{fault-fills}
 use Rattle.desk.proofs.Demands.{taken, read-told, tables-told, text-judged, text-possible}
 use Rattle.desk.proofs.Reports.{text-short, longest-fits}
 
 -- ---- two tables that are told 10 or 11 by the writer's schedule
 
-module _ (commands lengths : List ℕ) (l : 10 ≤ ofTables commands lengths .told .number) where
+module _ (commands lengths : List ℕ) (l : hasPairs (ofTables commands lengths .told .number) ≡ true) where
   abbrev σ : List ℕ
   σ = schedule commands lengths
 
   number-is : ofTables commands lengths .told .number ≡ toldOf commands lengths .number
   number-is = ap (λ (t : Told). t .number) (tables-told commands lengths)
 
+  full : fills (toldOf commands lengths .number) ≡ true
+  full = subst (λ (n : ℕ). fills n ≡ true) number-is (pairs-fill (ofTables commands lengths .told .number) l)
+
   pub tables-pass : refused commands lengths (words mostRows) mostRows .number ≡ 0
   unfolding verdictOf
   tables-pass =
       let a = refused commands lengths (words mostRows) mostRows in
       by-cases (ℕ-discrete (a .number) 0) (λ (e : a .number ≡ 0). e)
-      (λ (n : a .number ≢ 0). absurd (omega (arith, number-is, ap (λ (t : Told). t .number) (or-first a (orElse (judged lengths (played commands lengths σ)) (faultTold commands lengths (generations commands lengths σ) (reaches commands lengths σ))) n), refused-small commands lengths (words mostRows) mostRows)))
+      (λ (n : a .number ≢ 0).
+      let f : fills (a .number) ≡ true = subst (λ (t : Told). fills (t .number) ≡ true) (sym (or-first a (orElse (judged lengths (played commands lengths σ)) (faultTold commands lengths (generations commands lengths σ) (reaches commands lengths σ))) n)) full in
+      clashing f (refusal-unfilled (a .number) (refused-refusal commands lengths (words mostRows) mostRows n)))
 
   pub tables-gives : Gives commands lengths σ (ofTables commands lengths .told .number) (ofTables commands lengths .sheet)
   unfolding verdictOf ofTables
@@ -73,10 +80,7 @@ module _ (commands lengths : List ℕ) (l : 10 ≤ ofTables commands lengths .to
       record {
         keeps = admitted commands lengths (words mostRows) mostRows tables-pass .keeps;
         told = number-is ∙ ap (λ (t : Told). t .number) (sym (or-second (refused commands lengths (words mostRows) mostRows) _ tables-pass));
-        sheet =
-            λ _.
-            let full : fills (toldOf commands lengths .number) ≡ true = fault-fills (toldOf commands lengths .number) (omega (arith, number-is)) (number-small commands lengths σ (words mostRows) mostRows) in
-            rw full;
+        sheet = λ _. rw full;
       }
 
 -- ---- a text
@@ -89,42 +93,42 @@ module _ (text : List ℕ) where
   s = ofText text .sheet
 
   -- a text that is told 10 or 11 is read
-  by-reading : (r : Reading) → taken text ≡ r → (readAs text .number ≡ 0) ⊎ (12 ≤ readAs text .number)
-  by-reading (Unfit p) e = inr (omega (arith, ap (λ (t : Told). t .number) (read-told text e)))
-  by-reading Over e = inr (omega (arith, ap (λ (t : Told). t .number) (read-told text e)))
+  by-reading : (r : Reading) → taken text ≡ r → (readAs text .number ≡ 0) ⊎ (isUnread (readAs text .number) ≡ true)
+  by-reading (Unfit p) e = inr (ap (λ (t : Told). isUnread (t .number)) (read-told text e))
+  by-reading Over e = inr (ap (λ (t : Told). isUnread (t .number)) (read-told text e))
   by-reading (Accepted m t) e = inl (ap (λ (t : Told). t .number) (read-told text e))
 
   not-read : readAs text .number ≢ 0 → ofText text ≡ bare (readAs text)
   unfolding ofText
   not-read d = rw (ne-eqb (readAs text .number) 0 d)
 
-  pub fault-read : 10 ≤ n → n ≤ 11 → readAs text .number ≡ 0
-  fault-read l h =
+  pub fault-read : hasPairs n ≡ true → readAs text .number ≡ 0
+  fault-read l =
       by-cases (ℕ-discrete (readAs text .number) 0) (λ (z : readAs text .number ≡ 0). z)
       (λ (d : readAs text .number ≢ 0).
-      ⊎-elim (λ z. z) (λ m. absurd (omega (arith, ap (λ (k : Conclusion). k .told .number) (not-read d), m))) (by-reading (taken text) refl))
+      ⊎-elim (λ z. z)
+      (λ (u : isUnread (readAs text .number) ≡ true).
+      clashing (subst (λ (k : Conclusion). fills (k .told .number) ≡ true) (not-read d) (pairs-fill n l)) (unread-unfilled (readAs text .number) u))
+      (by-reading (taken text) refl))
 
   module _ (z : readAs text .number ≡ 0) where
     text-is : ofText text ≡ ofTables (commandsOf text) (lengthsOf text)
     unfolding ofText
     text-is = rw (eq-eqb (readAs text .number) 0 z)
 
-    text-gives : 10 ≤ n → Gives (commandsOf text) (lengthsOf text) (offered text) n s
+    table-pairs : hasPairs n ≡ true → hasPairs (ofTables (commandsOf text) (lengthsOf text) .told .number) ≡ true
+    table-pairs = subst (λ (k : Conclusion). hasPairs (k .told .number) ≡ true) text-is
+
+    text-gives : hasPairs n ≡ true → Gives (commandsOf text) (lengthsOf text) (offered text) n s
     text-gives l =
         subst (λ (k : Conclusion). Gives (commandsOf text) (lengthsOf text) (offered text) (k .told .number) (k .sheet)) (sym text-is)
-        (tables-gives (commandsOf text) (lengthsOf text) (omega (arith, ap (λ (k : Conclusion). k .told .number) text-is)))
+        (tables-gives (commandsOf text) (lengthsOf text) (table-pairs l))
 
-    text-passes : 10 ≤ n → refused (commandsOf text) (lengthsOf text) (words mostRows) mostRows .number ≡ 0
-    text-passes l = tables-pass (commandsOf text) (lengthsOf text) (omega (arith, ap (λ (k : Conclusion). k .told .number) text-is))
+    text-passes : hasPairs n ≡ true → refused (commandsOf text) (lengthsOf text) (words mostRows) mostRows .number ≡ 0
+    text-passes l = tables-pass (commandsOf text) (lengthsOf text) (table-pairs l)
 
-  named : (l : 10 ≤ n) → n ≤ 11 → Named (commandsOf text) n s
-  named l h = let G = text-gives (fault-read l h) l in record { reuse = ten-commands G; races = eleven-commands G }
-
-  -- 10 and 11, or no exhibits
-  either : ((10 ≤ n) × (n ≤ 11)) ⊎ ((n ≢ 10) × (n ≢ 11))
-  either =
-      by-cases (ℕ-discrete n 10) (λ (e : n ≡ 10). inl (omega arith, omega arith))
-      (λ (d : n ≢ 10). by-cases (ℕ-discrete n 11) (λ (e : n ≡ 11). inl (omega arith, omega arith)) (λ (f : n ≢ 11). inr (d, f)))
+  named : hasPairs n ≡ true → Named (commandsOf text) n s
+  named l = let G = text-gives (fault-read l) l in record { reuse = ten-commands G; races = eleven-commands G }
 
   -- ---- they have room
 
@@ -132,12 +136,14 @@ module _ (text : List ℕ) where
   unfolding textExhibits mostRows
   exhibits-few =
       ⊎-elim
-      (λ w.
-      let G = text-gives (fault-read (w .0) (w .1)) (w .0) in
+      (λ (t : hasPairs n ≡ true).
+      let G = text-gives (fault-read t) t in
       exhibits-short (G .keeps) (generationsOf text)
-      (λ c l. omega (arith, generation-placed (G .keeps) (offered text) (verdicts.clean G (w .0) .through) c l)) (reachesOf text) n s (named (w .0) (w .1)))
-      (λ w. omega (arith, ap length (exhibits-none (commandsOf text) (lengthsOf text) (generationsOf text) (reachesOf text) n s (w .0) (w .1))))
-      either
+      (λ c l. omega (arith, generation-placed (G .keeps) (offered text) (verdicts.clean G t .through) c l)) (reachesOf text) n s (named t))
+      (λ (f : hasPairs n ≡ false).
+      let (a, b) = no-pairs n f in
+      omega (arith, ap length (exhibits-none (commandsOf text) (lengthsOf text) (generationsOf text) (reachesOf text) n s a b)))
+      (split (hasPairs n))
 
   pub all-fits : length (report (ofText text) ++ textExhibits text) ≤ leastEvidence
   unfolding leastEvidence leastRoom
@@ -147,13 +153,15 @@ module _ (text : List ℕ) where
 
   pub ten-so : n ≡ 10 → Against text
   ten-so e =
-      let G = text-gives (fault-read (omega arith) (omega arith)) (omega arith) in
+      let t : hasPairs n ≡ true = rw e in
+      let G = text-gives (fault-read t) t in
       let D = ten-disputes G e in
       record { disputes = D; so = shown-true (commandsOf text) (lengthsOf text) (generationsOf text) _ (D .other) }
 
   pub eleven-so : n ≡ 11 → (k : ℕ) → k < length (keptPairs s) → BothOrders text (getD (keptPairs s) k (pair 0 0))
   eleven-so e k l =
-      let (a, b) = eleven-orders (text-gives (fault-read (omega arith) (omega arith)) (omega arith)) e k l in
+      let t : hasPairs n ≡ true = rw e in
+      let (a, b) = eleven-orders (text-gives (fault-read t) t) e k l in
       record { x-first = a; y-first = b }
 
 -- ---- what `put_exhibits` has put, over the rooms that a conclusion left
@@ -174,35 +182,36 @@ module _ {text relation generations : List ℕ} {r : Concluded} {commands′ len
   t = ofText text .sheet
 
   -- for 10 and 11, over the text's tables and what the rooms hold
-  module _ (low : 10 ≤ k) (top : k ≤ 11) where
+  module _ (faulty : hasPairs k ≡ true) where
     z : readAs text .number ≡ 0
-    z = fault-read text low top
+    z = fault-read text faulty
 
     G : Gives c l (offered text) k t
-    G = text-gives text z low
+    G = text-gives text z faulty
 
     H : FilledRooms c l relation generations relation′ generations′
-    H = C .holds z (omega (arith, ap (λ (k : Conclusion). k .told .number) (C .told)))
+    H = C .holds z (subst (λ (k : Conclusion). hasPairs (k .told .number) ≡ true) (sym (C .told)) faulty)
 
     same-numbers : (x : ℕ) → x < rows c → numberAt generations′ x ≡ generationsOf text x
     same-numbers x h =
-        let T = clean-through (G .keeps) (offered text) (verdicts.clean G low .through) in
+        let T = clean-through (G .keeps) (offered text) (verdicts.clean G faulty .through) in
         ap (λ (g : List ℕ). getD g x 0) (H .numbers)
         ∙ put-front (played c l (offered text) .generations) generations (rows c) (omega (arith, G .keeps .few-rows, T .gens .long)) x h
 
     same-reach : (x y : ℕ) → x < rows c → y < rows c → related relation′ (rows c) x y ≡ reachesOf text x y
-    same-reach = related-reaches c l (generationsOf text) relation relation′ (H .reached) (omega (arith, wide, admitted c l (words mostRows) mostRows (text-passes text z low) .relation-fits))
+    same-reach = related-reaches c l (generationsOf text) relation relation′ (H .reached) (omega (arith, wide, admitted c l (words mostRows) mostRows (text-passes text z faulty) .relation-fits))
 
     faults-are : exhibited c l generations′ relation′ k t ≡ textExhibits text
     unfolding textExhibits
     faults-are =
-        exhibited-all c l generations′ relation′ (rw (wide′, high′) (text-passes text z low)) k t
-        ∙ exhibits-alike (G .keeps) (numberAt generations′) (generationsOf text) (related relation′ (rows c)) (reachesOf text) same-numbers same-reach k t (named text low top)
+        exhibited-all c l generations′ relation′ (rw (wide′, high′) (text-passes text z faulty)) k t
+        ∙ exhibits-alike (G .keeps) (numberAt generations′) (generationsOf text) (related relation′ (rows c)) (reachesOf text) same-numbers same-reach k t (named text faulty)
 
   -- others have none
-  none-are : k ≢ 10 → k ≢ 11 → (cs ls : List ℕ) → exhibited cs ls generations′ relation′ k t ≡ textExhibits text
+  none-are : hasPairs k ≡ false → (cs ls : List ℕ) → exhibited cs ls generations′ relation′ k t ≡ textExhibits text
   unfolding textExhibits
-  none-are a b cs ls =
+  none-are f cs ls =
+      let (a, b) = no-pairs k f in
       by-cases (ℕ-discrete (refused cs ls (length relation′) (length generations′) .number) 0)
       (λ (z : refused cs ls (length relation′) (length generations′) .number ≡ 0).
       exhibited-all cs ls generations′ relation′ z k t ∙ exhibits-none cs ls (numberAt generations′) (related relation′ (rows cs)) k t a b)
@@ -213,11 +222,11 @@ module _ {text relation generations : List ℕ} {r : Concluded} {commands′ len
   exhibits-are =
       ap (λ (q : Conclusion). exhibited (take (r .numbers) commands′) (take (r .threads) lengths′) generations′ relation′ (q .told .number) (q .sheet)) (C .told)
       ∙ ⊎-elim
-      (λ w.
-      let z = fault-read text (w .0) (w .1) in
-      ap₂ (λ (cs ls : List ℕ). exhibited cs ls generations′ relation′ k t) (C .numbers z) (C .threads z) ∙ faults-are (w .0) (w .1))
-      (λ w. none-are (w .0) (w .1) (take (r .numbers) commands′) (take (r .threads) lengths′))
-      (either text)
+      (λ (p : hasPairs k ≡ true).
+      let z = fault-read text p in
+      ap₂ (λ (cs ls : List ℕ). exhibited cs ls generations′ relation′ k t) (C .numbers z) (C .threads z) ∙ faults-are p)
+      (λ (f : hasPairs k ≡ false). none-are f (take (r .numbers) commands′) (take (r .threads) lengths′))
+      (split (hasPairs k))
 
   pub evidenced-text : {room room₁ room₂ : List ℕ} {at next : ℕ} → leastEvidence ≤ length room → PutsBytes room room₁ 0 (report (r .conclusion)) at
       → PutsBytes room₁ room₂ at (exhibited (take (r .numbers) commands′) (take (r .threads) lengths′) generations′ relation′ (r .conclusion .told .number) (r .conclusion .sheet)) next

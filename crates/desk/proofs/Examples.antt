@@ -4,7 +4,7 @@ use mathlib.Core.Bool.{true}
 use Rattle.tables.specs.Limits.{mostRows, mostThreads, addresses, barriers, mostCount}
 use Rattle.tables.specs.Rows.{total, firstRow, threadOf}
 use Rattle.tables.specs.Lowest.{lowest}
-use Rattle.tables.specs.Rules.{rowKeeps, firstBad, checked}
+use Rattle.rules.specs.Rules.{rowKeeps, firstBad, checked}
 use Rattle.relation.specs.Chains.{rounds}
 use Rattle.relation.specs.Table.{width}
 use Rattle.schedules.specs.Order.{edge, reach}
@@ -16,14 +16,18 @@ use Rattle.spelling.specs.Machine.{flat, found}
 use Rattle.grammar.specs.Tokens.{wordOf, markOf, pieceOf}
 use Rattle.grammar.specs.Automaton.{tokenMoves}
 use Rattle.notation.specs.Reading.{mostBytes, judgedOf, tooMany, reading}
-use Rattle.turns.specs.Turns.{mayStep}
-use Rattle.replay.specs.State.{start}
-use Rattle.replay.specs.Step.{allowed, registering, running, stepped}
-use Rattle.replay.specs.Replay.{playing, played}
-use Rattle.replay.specs.Ending.{ended, judged}
-use Rattle.replay.specs.Writer.{stepping, scheduleBy, schedule}
+use Rattle.turns.specs.Turns.{held, hasLeft, mayStep}
+use Rattle.turns.specs.Counting.{counted}
+use Rattle.steps.specs.Barrier.{registration}
+use Rattle.steps.specs.State.{start}
+use Rattle.steps.specs.Step.{allowed, registering, running, stepped}
+use Rattle.steps.specs.Going.{oneOn, goOn, begun, played}
+use Rattle.steps.specs.Ending.{ended, judged}
+use Rattle.steps.specs.Writing.{stepping}
+use Rattle.replay.specs.Writer.{scheduleBy, schedule}
 use Rattle.sheet.specs.Sheet.{mostKept, firsts, sheetOf}
 use Rattle.faults.specs.Faults.{succeeds, reuse, conflict, race, alongRow, allRows, faults}
+use Rattle.rooms.specs.Short.{firstShort}
 use Rattle.rooms.specs.Refusals.{refused}
 use Rattle.review.specs.Judge.{verdictOf}
 use Rattle.printing.specs.Figures.{figuresTo, figures}
@@ -35,7 +39,7 @@ pub every : reported reports ≡ true
 unfolding reports reported
     mostRows mostThreads addresses barriers mostCount total firstRow threadOf lowest rowKeeps firstBad checked rounds width edge reach
     classOf run sameBytes mostNumber decimal numeralOf cutsN flat found wordOf markOf pieceOf tokenMoves mostBytes judgedOf tooMany reading
-    start mayStep allowed registering running stepped playing played ended judged stepping scheduleBy schedule mostKept firsts sheetOf
-    succeeds reuse conflict race alongRow allRows faults refused verdictOf
+    counted registration start held hasLeft mayStep allowed registering running stepped oneOn goOn begun played ended judged stepping scheduleBy schedule mostKept firsts sheetOf
+    succeeds reuse conflict race alongRow allRows faults firstShort refused verdictOf
     figuresTo figures ofTables ofText twoNumbers verdictLine totalLine pairLines report
 every = refl

@@ -5,6 +5,8 @@ use mathlib.Core.List.{List}
 use Prim.Native.Nat.{ℕ}
 use Rattle.tables.specs.Limits.{mostRows}
 use Rattle.verdicts.specs.Verdicts.{numbered}
+use Rattle.verdicts.specs.Numbers.{settles}
+use Rattle.verdicts.proofs.Numbers.{settled-fills}
 use Rattle.verdicts.specs.declared.Told.{Told}
 use Rattle.relation.specs.Table.{words}
 use Rattle.spelling.specs.Machine.{Outcome, flat}
@@ -13,8 +15,8 @@ use Rattle.notation.proofs.Readings.{denoted-found}
 use Rattle.replay.specs.Writer.{schedule}
 use Rattle.replay.proofs.Writing.{schedule-complete}
 use Rattle.sheet.specs.Sheet.{sheetOf}
-use Rattle.review.specs.Agreement.{number, Review, settles}
-use Rattle.review.proofs.OneFile.{settled-fills, Settling, settling, admits, complete-settles, one-told, one-pairs}
+use Rattle.review.specs.Agreement.{number, Review}
+use Rattle.review.proofs.OneFile.{Settling, settling, admits, complete-settles, one-told, one-pairs}
 use Rattle.review.proofs.Bounds.{full-rooms}
 use Rattle.desk.specs.Conclusion.{toldOf, pairsOf, ofTables, ofText}
 use Rattle.desk.specs.Evidence.{textExhibits}

@@ -9,7 +9,9 @@ use native.Mathlib.Decide.{decLt}
 use lib.Dec.{eqb}
 use lib.ListN.{length, getD}
 use Rattle.tables.specs.Limits.{mostRows, mostThreads}
+use Rattle.verdicts.specs.Numbers.{fills}
 use Rattle.verdicts.specs.declared.Told.{Told}
+use Rattle.verdicts.proofs.Numbers.{verdict-small}
 use Rattle.notation.specs.declared.reading.Reading.{Reading}
 use Rattle.notation.specs.declared.reading.Reading.the-variants.{Unfit, Over, Accepted}
 use Rattle.notation.specs.Reading.{mostBytes, answered, rowNumbers, threadLengths}
@@ -19,8 +21,7 @@ use Rattle.printing.specs.Putting.{PutsBytes}
 use Rattle.printing.proofs.Placing.{puts-over}
 use Rattle.replay.specs.Writer.{schedule}
 use Rattle.sheet.specs.Sheet.{mostKept, pair, firsts, sheetOf}
-use Rattle.review.specs.Judge.{fills}
-use Rattle.review.proofs.Bounds.{place-small, also-small, number-small, pairs-few, pairs-small}
+use Rattle.review.proofs.Bounds.{place-small, also-small, number-verdict, pairs-few, pairs-small}
 use Rattle.report.specs.declared.Conclusion.{Conclusion}
 use Rattle.desk.specs.Conclusion.{bare, toldOf, pairsOf, ofTables, readAs, ofText}
 use Rattle.report.specs.Report.{report}
@@ -53,7 +54,7 @@ module _ (commands lengths : List ℕ) where
   few-told : (toldOf commands lengths .number < 100) × (toldOf commands lengths .place < 100000) × (toldOf commands lengths .also < 1000)
   unfolding mostRows
   few-told = (
-    omega (arith, number-small commands lengths σ (words mostRows) mostRows),
+    verdict-small (toldOf commands lengths .number) (number-verdict commands lengths σ (words mostRows) mostRows),
     omega (arith, place-small commands lengths σ (words mostRows) mostRows),
     omega (arith, also-small commands lengths σ (words mostRows) mostRows),
   )

@@ -8,24 +8,27 @@ use native.Mathlib.Omega.{arith}
 use native.Mathlib.Decide.{ℕ-discrete}
 use lib.ListN.{length, take, drop, replicate, length-append, length-replicate}
 use lib.Seq.{take-at}
-use borrow.Author.Tests.{eq-eqb, le-ltb}
 use Rattle.tables.specs.Limits.{mostRows, mostThreads}
 use Rattle.tables.specs.Rows.{rows}
-use Rattle.tables.specs.Rules.{checked}
+use Rattle.rules.specs.Rules.{checked}
 use Rattle.verdicts.specs.Verdicts.{numbered}
-use Rattle.tables.proofs.Rules.{passes-zero, checked-small}
+use Rattle.verdicts.specs.Numbers.{hasPairs, fills}
+use Rattle.verdicts.proofs.Numbers.{few-refusal, refusal-unfilled, pairs-fill}
+use Rattle.rules.proofs.Rules.{passes-zero, checked-small}
 use Rattle.relation.specs.Table.{width, words}
+use Rattle.relation.proofs.Truth.{clashing}
 use Rattle.replay.specs.declared.writer.Written.{Written}
 use Rattle.replay.specs.Doors.{WritesSchedule}
 use Rattle.verdicts.specs.declared.Told.{Told}
-use Rattle.replay.specs.Writer.{schedule, unwritten, Filled}
+use Rattle.replay.specs.Writer.{schedule, unwritten}
+use Rattle.steps.specs.Writing.{FilledBy}
+use Rattle.replay.proofs.Refusals.{keeps-written}
 use Rattle.findings.specs.declared.finding.Finding.{Finding}
 use Rattle.review.specs.Agreement.{Reviewed}
 use Rattle.order.specs.Order.{Reached}
-use Rattle.replay.specs.Replay.{played}
-use Rattle.review.specs.Judge.{put, generations, fills}
+use Rattle.steps.specs.Going.{played}
+use Rattle.review.specs.Judge.{put, generations}
 use Rattle.sheet.specs.Sheet.{sheetOf}
-use Rattle.review.proofs.Reviews.{no-fill}
 use Rattle.review.proofs.Bounds.{refused-checked}
 use Rattle.report.specs.declared.Conclusion.{Conclusion}
 use Rattle.desk.specs.Conclusion.{toldOf, pairsOf, ofTables, bare}
@@ -50,13 +53,13 @@ full-words = length-replicate {A = ℕ} 8192 0
 
 -- a full room is not refused
 roomy : (commands lengths : List ℕ) (room : ℕ) → checked commands lengths .number ≡ 0 → mostRows ≤ room → unwritten commands lengths room .number ≡ 0
-unfolding unwritten
 roomy commands lengths room e l =
-    rw (eq-eqb (checked commands lengths .number) 0 e, le-ltb room (rows commands) (omega (arith, passes-zero commands lengths e .few-rows)))
+    let K = passes-zero commands lengths e in
+    keeps-written commands lengths room K (omega (arith, K .few-rows))
 
 -- what the writer left in a full room
 module _ {commands lengths before after : List ℕ} {w : Written} (W : WritesSchedule commands lengths before after w) (full : length before ≡ mostRows) where
-  filled : checked commands lengths .number ≡ 0 → Filled commands lengths before after (w .length)
+  filled : checked commands lengths .number ≡ 0 → FilledBy (schedule commands lengths) before after (w .length)
   filled e = W .wrote (ap (λ (t : Told). t .number) (W .verdict) ∙ roomy commands lengths (length before) e (omega arith))
 
   pub steps-fit : length after ≡ length before → w .length ≤ length after
@@ -70,11 +73,11 @@ module _ {commands lengths before after : List ℕ} {w : Written} (W : WritesSch
   pub steps-are : checked commands lengths .number ≡ 0 → take (w .length) after ≡ schedule commands lengths
   steps-are e = let F = filled e in ap (λ (l : List ℕ). take (w .length) l) (F .room) ∙ take-at (schedule commands lengths) (drop (w .length) before) (w .length) (sym (F .long))
 
--- 10 and 11 fill the rooms
-pub fault-fills : (n : ℕ) → 10 ≤ n → n ≤ 11 → fills n ≡ true
-fault-fills n l h =
-    by-cases (ℕ-discrete n 10) (λ (e : n ≡ 10). rw e)
-    (λ (d : n ≢ 10). let e : n ≡ 11 = omega arith in rw e)
+-- what the check tells of tables, and is not 0, fills nothing
+checked-unfilled : (commands lengths : List ℕ) → checked commands lengths .number ≢ 0 → fills (checked commands lengths .number) ≡ false
+checked-unfilled commands lengths n =
+    let k = checked commands lengths .number in
+    refusal-unfilled k (few-refusal k (omega (arith, checked-small commands lengths)) n)
 
 -- what the review then found
 module _ {commands lengths σ relation room relation′ room′ : List ℕ} {f : Finding} (R : Reviewed commands lengths σ relation room f relation′ room′)
@@ -105,22 +108,22 @@ module _ {commands lengths σ relation room relation′ room′ : List ℕ} {f :
       refused n =
           let q : toldOf commands lengths ≡ checked commands lengths = refused-checked commands lengths n (schedule commands lengths) (words mostRows) mostRows in
           agrees (R .demand₂ .verdict ∙ refused-checked commands lengths n σ (length relation) (length room) ∙ sym q)
-          (λ p. absurd (true≢false (sym p ∙ rw q (no-fill (checked commands lengths .number) n (omega (arith, checked-small commands lengths))))))
+          (λ p. absurd (true≢false (sym p ∙ rw q (checked-unfilled commands lengths n))))
 
   -- for 10 and 11 the tables pass, and the rooms are filled
   pub judged-tables : (checked commands lengths .number ≡ 0 → σ ≡ schedule commands lengths) → JudgesTables commands lengths relation room told-as relation′ room′
   judged-tables s = record { told = concluded s; holds = λ l. by-cases (ℕ-discrete (checked commands lengths .number) 0) (filled-rooms l) (λ n. absurd (refused-low l n)) }
     where
-      filled-rooms : 10 ≤ t .number → checked commands lengths .number ≡ 0 → FilledRooms commands lengths relation room relation′ room′
+      filled-rooms : hasPairs (t .number) ≡ true → checked commands lengths .number ≡ 0 → FilledRooms commands lengths relation room relation′ room′
       filled-rooms l e =
           let q = s e in
-          let n : t .number ≡ numbered (f .verdict) .number = ap (λ (u : Told). u .number) said in
-          let full : fills (numbered (f .verdict) .number) ≡ true = fault-fills (numbered (f .verdict) .number) (omega arith) (R .demand₁ .told) in
+          let full : fills (numbered (f .verdict) .number) ≡ true = subst (λ (u : Told). fills (u .number) ≡ true) said (pairs-fill (t .number) l) in
           record {
             reached = subst (λ (τ : List ℕ). Reached commands lengths (generations commands lengths τ) relation relation′) q (R .demand₂ .relation-holds full);
             numbers = R .demand₂ .room-holds full ∙ ap (λ (τ : List ℕ). put (played commands lengths τ .generations) (rows commands) room) q;
           }
 
-      refused-low : 10 ≤ t .number → checked commands lengths .number ≢ 0 → ⊥
+      refused-low : hasPairs (t .number) ≡ true → checked commands lengths .number ≢ 0 → ⊥
       refused-low l n =
-          omega (arith, ap (λ (u : Told). u .number) (said ∙ R .demand₂ .verdict ∙ refused-checked commands lengths n σ (length relation) (length room)), checked-small commands lengths)
+          let e = said ∙ R .demand₂ .verdict ∙ refused-checked commands lengths n σ (length relation) (length room) in
+          clashing (subst (λ (u : Told). fills (u .number) ≡ true) e (pairs-fill (t .number) l)) (checked-unfilled commands lengths n)

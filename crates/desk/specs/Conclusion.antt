@@ -4,13 +4,14 @@ use mathlib.Core.List.{List, []}
 use Prim.Native.Nat.{ℕ, _*_}
 use lib.Dec.{eqb}
 use Rattle.tables.specs.Limits.{mostRows, mostThreads}
+use Rattle.verdicts.specs.Numbers.{fills}
 use Rattle.verdicts.specs.declared.Told.{Told}
 use Rattle.relation.specs.Table.{words}
 use Rattle.notation.specs.Reading.{reading, rowNumbers, threadLengths}
 use Rattle.replay.specs.Writer.{schedule}
 use Rattle.sheet.specs.Sheet.{sheetOf}
 use Rattle.findings.specs.Findings.{faultPairs}
-use Rattle.review.specs.Judge.{verdictOf, generations, reaches, fills}
+use Rattle.review.specs.Judge.{verdictOf, generations, reaches}
 use Rattle.sheet.specs.declared.Pair.{Pair}
 use Rattle.report.specs.declared.Conclusion.{Conclusion}
 

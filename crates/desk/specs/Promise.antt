@@ -1,12 +1,14 @@
 -- What the text review promises.
 use mathlib.Core.Path.{_≡_}
 use mathlib.Core.Logic.{_⊎_, _↔_}
+use mathlib.Core.Bool.{true}
 use mathlib.Core.List.{List}
 use Prim.Native.Nat.{ℕ, _*_, _≤_, _<_}
 use lib.ListN.{length}
 use Rattle.tables.specs.Limits.{mostRows, mostThreads}
-use Rattle.tables.specs.Rules.{checked}
+use Rattle.rules.specs.Rules.{checked}
 use Rattle.verdicts.specs.Verdicts.{tell}
+use Rattle.verdicts.specs.Numbers.{isComplete, settles, disagrees, isUnread}
 use Rattle.verdicts.specs.declared.Told.{Told}
 use Rattle.spelling.specs.Machine.{flat}
 use Rattle.spelling.specs.Over.{over}
@@ -35,16 +37,16 @@ pub record Reviewable (text : List ℕ) (x : Listing) : Type 0 where
 -- Demand 3, of a text and the number that it is answered with.
 pub record JudgesText (text : List ℕ) (n : ℕ) : Type 0 where
   -- 0 or 11 exactly when every legal complete schedule of the text's listing ends clean with the same generation for each command
-  pub agreement : ((n ≡ 0) ⊎ (n ≡ 11)) ↔ ((x : Listing) × Reviewable text x × Agree (numbers x) (listingLengths x))
+  pub agreement : (settles n ≡ true) ↔ ((x : Listing) × Reviewable text x × Agree (numbers x) (listingLengths x))
   -- 0 exactly when, besides, every two conflicting accesses stand in the same order in all of them
   pub order : (n ≡ 0) ↔ ((x : Listing) × Reviewable text x × Agree (numbers x) (listingLengths x) × SameOrder (numbers x) (listingLengths x))
   -- 7 to 10 only where that agreement fails
-  pub disagreement : 7 ≤ n → n ≤ 10 → (x : Listing) × Reviewable text x × Disagree (numbers x) (listingLengths x)
+  pub disagreement : disagrees n ≡ true → (x : Listing) × Reviewable text x × Disagree (numbers x) (listingLengths x)
 
 -- Which numbers there are, and what 3, 12 and 13 say of the text. Its rooms are full ones, so it never answers 4, and 13 only past the limits; its tables are of the
 -- reader's making and its schedule of the writer's, so 1, 2, 5 and 6 don't come either.
 pub record Possible (text : List ℕ) (t : Told) : Type 0 where
-  pub some : (t .number ≡ 0) ⊎ (t .number ≡ 3) ⊎ ((7 ≤ t .number) × (t .number ≤ 13))
+  pub some : (isComplete (t .number) ≡ true) ⊎ (t .number ≡ 3) ⊎ (isUnread (t .number) ≡ true)
   pub broken : t .number ≡ 3 → (x : Listing) × Denotes text x × (t ≡ checked (numbers x) (listingLengths x))
   pub unfit : t .number ≡ 12 → RefusedAt text (t .place)
   pub too-much : t .number ≡ 13

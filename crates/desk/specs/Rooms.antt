@@ -1,13 +1,15 @@
 -- What the parts of a text review ask of rooms, and leave in them.
 use mathlib.Core.Path.{_≡_}
+use mathlib.Core.Bool.{true}
 use mathlib.Core.List.{List}
 use Prim.Native.Nat.{ℕ, _*_, _≤_}
 use lib.ListN.{length, take}
 use Rattle.tables.specs.Limits.{mostRows, mostThreads}
 use Rattle.tables.specs.Rows.{rows}
+use Rattle.verdicts.specs.Numbers.{hasPairs}
 use Rattle.relation.specs.Table.{words}
 use Rattle.notation.specs.Reading.{rowNumbers, threadLengths}
-use Rattle.replay.specs.Replay.{played}
+use Rattle.steps.specs.Going.{played}
 use Rattle.replay.specs.Writer.{schedule}
 use Rattle.order.specs.Order.{Reached}
 use Rattle.review.specs.Judge.{put, generations}
@@ -33,7 +35,7 @@ pub record FilledRooms (commands lengths relation generations relation′ genera
 -- two tables are judged; for 10 and 11 the rooms are filled
 pub record JudgesTables (commands lengths relation generations : List ℕ) (r : Conclusion) (relation′ generations′ : List ℕ) : Type 0 where
   pub told : r ≡ ofTables commands lengths
-  pub holds : 10 ≤ r .told .number → FilledRooms commands lengths relation generations relation′ generations′
+  pub holds : hasPairs (r .told .number) ≡ true → FilledRooms commands lengths relation generations relation′ generations′
 
 -- a text is judged; where it is read, its tables stand first in their rooms
 pub record Concludes (text relation generations : List ℕ) (r : Concluded) (commands′ lengths′ relation′ generations′ : List ℕ) : Type 0 where
@@ -42,4 +44,4 @@ pub record Concludes (text relation generations : List ℕ) (r : Concluded) (com
   pub threads-fit : r .threads ≤ length lengths′
   pub numbers : readAs text .number ≡ 0 → take (r .numbers) commands′ ≡ rowNumbers text
   pub threads : readAs text .number ≡ 0 → take (r .threads) lengths′ ≡ threadLengths text
-  pub holds : readAs text .number ≡ 0 → 10 ≤ r .conclusion .told .number → FilledRooms (rowNumbers text) (threadLengths text) relation generations relation′ generations′
+  pub holds : readAs text .number ≡ 0 → hasPairs (r .conclusion .told .number) ≡ true → FilledRooms (rowNumbers text) (threadLengths text) relation generations relation′ generations′

@@ -32,7 +32,8 @@ fn judge_tables(
     generations: &mut [u32],
 ) -> Conclusion
     requires { ⌜ FullRooms (now relation) (now generations) ⌝ }
-    ensures { λ r. ⌜ JudgesTables (now (commands .entry)) (now (lengths .entry)) (now (relation .entry)) (now (generations .entry)) r (now (relation .exit)) (now (generations .exit)) ⌝ }
+    ensures { λ r. ⌜ JudgesTables (now (commands .entry)) (now (lengths .entry)) (now (relation .entry)) (now (generations .entry))
+        r (now (relation .exit)) (now (generations .exit)) ⌝ }
 {
     let mut schedule = [0u32; Table::ROWS];
     let written = write_schedule(commands, lengths, &mut schedule);
@@ -55,7 +56,8 @@ pub(crate) fn conclude(
     generations: &mut [u32],
 ) -> Concluded
     requires { ⌜ FullTables (now commands) (now lengths) × FullRooms (now relation) (now generations) ⌝ }
-    ensures { λ r. ⌜ Concludes (now (text .entry)) (now (relation .entry)) (now (generations .entry)) r (now (commands .exit)) (now (lengths .exit)) (now (relation .exit)) (now (generations .exit)) ⌝ }
+    ensures { λ r. ⌜ Concludes (now (text .entry)) (now (relation .entry)) (now (generations .entry))
+        r (now (commands .exit)) (now (lengths .exit)) (now (relation .exit)) (now (generations .exit)) ⌝ }
 {
     let reading = read(text, commands, lengths);
     let Reading::Accepted(m, t) = reading else {

@@ -1,52 +1,44 @@
 -- How large the numbers of an answer with evidence are. Assumes nothing.
 use mathlib.Core.Path.{_≡_, sym, ap, _∙_, subst}
 use mathlib.Core.Logic.{by-cases, ⊎-elim, _≢_}
-use mathlib.Core.Bool.{Bool, true, false, cond}
+use mathlib.Core.Bool.{true, false}
 use mathlib.Core.List.{List}
 use Prim.Native.Nat.{ℕ, _*_, _≤_, min}
 use native.Mathlib.Decide.{ℕ-discrete}
 use native.Mathlib.Nat.{mul-le-mul}
 use native.Mathlib.Omega.{arith}
-use lib.Dec.{ltb}
 use lib.ListN.{length, length-take}
-use borrow.Author.Tests.{eq-eqb}
+use borrow.Author.Tests.{eq-eqb, ne-eqb}
 use Rattle.tables.specs.Limits.{mostRows}
 use Rattle.tables.specs.Rows.{rows}
-use Rattle.verdicts.specs.Verdicts.{tell}
+use Rattle.verdicts.specs.Numbers.{fills}
 use Rattle.verdicts.specs.declared.Told.{Told}
 use Rattle.relation.proofs.Truth.{split}
 use Rattle.sheet.specs.declared.Pair.{Pair}
 use Rattle.sheet.specs.declared.Sheet.{Sheet}
 use Rattle.sheet.specs.Sheet.{mostKept, sheetOf, keptPairs, firstKept}
 use Rattle.sheet.proofs.Sheets.{sheet-long}
-use Rattle.replay.proofs.Refusals.{or-either}
 use Rattle.replay.proofs.Places.{Placed, placed}
-use Rattle.rooms.specs.Refusals.{refused}
 use Rattle.rooms.proofs.Refusals.{admitted}
-use Rattle.review.specs.Judge.{reaches, fills}
+use Rattle.review.specs.Judge.{reaches}
 use Rattle.review.specs.Agreement.{number}
 use Rattle.review.proofs.Bounds.{Small, finding-small, bare-small, refused-placed}
 use Rattle.evidence.specs.declared.door.Evidence.{Evidence}
 use Rattle.evidence.specs.Evidence.{against, evidenceRoom, evidenceOf}
-use Rattle.evidence.specs.Doors.{refusedShowing, refusedOf, Evidenced}
+use Rattle.evidence.specs.Doors.{refusedOf, Evidenced}
 use Rattle.evidence.proofs.Putting.{apart-few}
-use Rattle.evidence.proofs.Doors.{showing-passes}
+use Rattle.evidence.proofs.Doors.{showing-passes, showing-either}
 
 module _ {commands lengths σ relation generations room : List ℕ} {r : Evidence} {relation′ generations′ room′ : List ℕ}
     (E : Evidenced commands lengths σ relation generations room r relation′ generations′ room′) where
   abbrev all : Told
   all = refusedOf commands lengths relation generations room
 
-  short-placed : (b : Bool) → Placed (cond b (tell 4 4 0) (tell 0 0 0))
-  unfolding mostRows
-  short-placed true = placed 4 4 (omega arith)
-  short-placed false = placed 0 0 (omega arith)
-
   all-placed : Placed all
-  unfolding refusedShowing
+  unfolding mostRows
   all-placed =
-      or-either Placed (refused commands lengths (length relation) (length generations)) _ (refused-placed commands lengths σ (length relation) (length generations))
-      (λ _. short-placed (ltb (length room) (evidenceRoom (rows commands))))
+      showing-either commands lengths (length relation) (length generations) (length room) Placed (refused-placed commands lengths σ (length relation) (length generations))
+      (placed 4 4 (omega arith)) (placed 0 0 (omega arith))
 
   pub evidence-small : Small (r .finding)
   evidence-small =
@@ -70,7 +62,7 @@ module _ {commands lengths σ relation generations room : List ℕ} {r : Evidenc
   -- no more than a room for the longest tables has
   module _ (z : all .number ≡ 0) where
     few : rows commands ≤ mostRows
-    few = admitted commands lengths (length relation) (length generations) (showing-passes commands lengths (length relation) (length generations) (length room) z) .keeps .few-rows
+    few = admitted commands lengths (length relation) (length generations) (showing-passes commands lengths (length relation) (length generations) (length room) z .0) .keeps .few-rows
 
     ten-few : number (r .finding) ≡ 10 → r .entries ≤ rows commands
     unfolding evidenceOf
@@ -92,7 +84,7 @@ module _ {commands lengths σ relation generations room : List ℕ} {r : Evidenc
         by-cases (ℕ-discrete (number (r .finding)) 10) (λ (e : number (r .finding) ≡ 10). omega (arith, ten-few e, few))
         (λ (n : number (r .finding) ≢ 10).
         by-cases (ℕ-discrete (number (r .finding)) 11) eleven-few
-        (λ (m : number (r .finding) ≢ 11). omega (arith, E .holds z .nothing n m .0)))
+        (λ (m : number (r .finding) ≢ 11). omega (arith, E .holds z .nothing (rw (ne-eqb (number (r .finding)) 10 n, ne-eqb (number (r .finding)) 11 m)) .0)))
 
   pub entries-few : r .entries ≤ evidenceRoom mostRows
   entries-few = by-cases (ℕ-discrete (all .number) 0) passed-few (λ (n : all .number ≢ 0). omega (arith, E .refused n .1 .entries))

@@ -1,32 +1,32 @@
 -- The contract of `review_evidence` from what its parts found. Assumes nothing.
 use mathlib.Core.Path.{_≡_, refl, sym, ap, _∙_, subst}
-use mathlib.Core.Logic.{by-cases, _≢_}
+use mathlib.Core.Logic.{_≢_}
 use mathlib.Core.Bool.{Bool}
-use mathlib.Core.List.{List, [], _++_}
+use mathlib.Core.List.{List, [], _∷_, _++_}
 use Prim.Native.Nat.{ℕ, _*_, _+_, _≤_, _<_}
-use native.Mathlib.Decide.{ℕ-discrete}
 use native.Mathlib.Omega.{arith}
 use lib.ListN.{length, getD, take, drop}
 use lib.Seq.{take-at}
-use borrow.Author.Tests.{eq-eqb, ne-eqb, le-ltb, lt-ltb}
-use Rattle.tables.specs.Limits.{mostRows}
+use borrow.Author.Tests.{eq-eqb, ne-eqb}
 use Rattle.tables.specs.Rows.{rows}
+use Rattle.rules.specs.Rules.{checked}
 use Rattle.verdicts.specs.Verdicts.{tell, numbered}
 use Rattle.verdicts.specs.declared.Told.{Told}
 use Rattle.verdicts.specs.declared.Verdict.{Verdict}
-use Rattle.verdicts.specs.declared.Verdict.the-variants.{ShortRoom}
 use Rattle.relation.specs.Table.{related}
 use Rattle.sheet.specs.Sheet.{pair, sheetOf, keptPairs, firstKept}
 use Rattle.findings.specs.declared.finding.Finding.{Finding}
-use Rattle.replay.specs.Writer.{FilledBy}
-use Rattle.replay.proofs.Refusals.{or-first, or-second}
-use Rattle.rooms.specs.Refusals.{refused}
-use Rattle.rooms.proofs.Refusals.{admitted}
+use Rattle.steps.specs.Writing.{FilledBy}
+use Rattle.verdicts.specs.InOrder.{orElse}
+use Rattle.verdicts.proofs.InOrder.{or-either, or-zero, or-assoc, said-first, said-second}
+use Rattle.rooms.specs.Short.{roomOf, firstShort}
+use Rattle.rooms.specs.Refusals.{reviewRooms, refused}
+use Rattle.rooms.proofs.Rooms.{all-long, first-either, none-either, then-short}
 use Rattle.review.specs.Judge.{reaches}
 use Rattle.review.specs.Agreement.{number, Reviewed}
 use Rattle.evidence.specs.declared.door.Evidence.{Evidence}
 use Rattle.evidence.specs.Evidence.{Disputes, HasBefore, against, bothWays, evidenceRoom, evidenceOf}
-use Rattle.evidence.specs.Doors.{shortEvidence, refusedShowing, refusedOf, scheduleAt, Opposes, HoldsEvidence, Evidenced}
+use Rattle.evidence.specs.Doors.{refusedShowing, refusedOf, scheduleAt, Opposes, HoldsEvidence, Admissible, Evidenced}
 use Rattle.evidence.proofs.Shown.{shown-ten, shown-orders, shown-long, evidence-is}
 use Rattle.evidence.proofs.Slices.{both-long, x-at, y-at, nothing-of}
 
@@ -76,7 +76,7 @@ module _ {commands lengths σ relation generations : List ℕ} {f : Finding} {re
         disputes = λ e. subst (Disputes commands lengths σ) (sym (front-is F ∙ ten-is e)) (shown-ten R pass e);
         opposes = opposes;
         count = λ e. F .long ∙ ap length (eleven-is e) ∙ both-long commands lengths ρ (rows commands) (keptPairs (f .sheet)) (shown-long R pass e);
-        nothing = λ a b. none-is (subst (λ (τ : List ℕ). FilledBy τ room room′ n) (nothing-of commands lengths ρ (number f) (f .sheet) a b) F);
+        nothing = λ e. none-is (subst (λ (τ : List ℕ). FilledBy τ room room′ n) (nothing-of commands lengths ρ (number f) (f .sheet) e) F);
       }
 
 -- what `show` left, over the relation room
@@ -91,58 +91,62 @@ shown-holds {commands} {lengths} {room = room} {f = f} {relation′ = relation�
 
 -- ---- refusals
 
--- tables and rooms that are not refused here are not refused without evidence
-pub showing-passes : (commands lengths : List ℕ) (relation generations room : ℕ) → refusedShowing commands lengths relation generations room .number ≡ 0
-    → refused commands lengths relation generations .number ≡ 0
-unfolding refusedShowing
-showing-passes commands lengths relation generations room z =
-    let a = refused commands lengths relation generations in
-    by-cases (ℕ-discrete (a .number) 0) (λ (e : a .number ≡ 0). e)
-    (λ (n : a .number ≢ 0). absurd (n (ap (λ (t : Told). t .number) (or-first a (shortEvidence (rows commands) room) n) ∙ z)))
+module _ (commands lengths : List ℕ) (relation generations given : ℕ) where
+  abbrev lent : List ℕ
+  lent = roomOf 4 (evidenceRoom (rows commands)) given
+
+  -- what is refused without evidence, and then the evidence room
+  showing-is : orElse (refused commands lengths relation generations) (firstShort (lent ∷ [])) ≡ refusedShowing commands lengths relation generations given
+  unfolding refusedShowing refused
+  showing-is =
+      or-assoc (checked commands lengths) (firstShort (reviewRooms (rows commands) relation generations)) (firstShort (lent ∷ []))
+      ∙ ap (orElse (checked commands lengths)) (sym (then-short (reviewRooms (rows commands) relation generations) (lent ∷ [])))
+
+  -- v is what is refused without evidence
+  module _ (v : Verdict) {told : Told} (is : numbered v ≡ refused commands lengths relation generations) (said : told ≡ numbered v) where
+    pub showing-first : told .number ≢ 0 → numbered v ≡ refusedShowing commands lengths relation generations given
+    showing-first n = said-first v said (firstShort (lent ∷ [])) n ∙ ap (λ (t : Told). orElse t (firstShort (lent ∷ []))) is ∙ showing-is
+
+    pub showing-room : told .number ≡ 0 → firstShort (lent ∷ []) ≡ refusedShowing commands lengths relation generations given
+    showing-room e = said-second v said (firstShort (lent ∷ [])) e ∙ ap (λ (t : Told). orElse t (firstShort (lent ∷ []))) is ∙ showing-is
+
+  -- what holds of what is told without evidence, of 4 with digit 4, and of 0, holds of what is told
+  pub showing-either : (P : Told → Type 0) → P (refused commands lengths relation generations) → P (tell 4 4 0) → P (tell 0 0 0)
+      → P (refusedShowing commands lengths relation generations given)
+  showing-either P p q z =
+      subst P showing-is (or-either P (refused commands lengths relation generations) _ p (λ _. first-either lent [] P q (none-either P z)))
+
+  -- tables and rooms that are not refused here are not refused without evidence, and the evidence room suffices
+  pub showing-passes : refusedShowing commands lengths relation generations given .number ≡ 0
+      → (refused commands lengths relation generations .number ≡ 0) × (evidenceRoom (rows commands) ≤ given)
+  showing-passes z =
+      let (a, b) = or-zero (refused commands lengths relation generations) (firstShort (lent ∷ [])) (ap (λ (t : Told). t .number) showing-is ∙ z) in
+      (a, all-long lent [] b .0)
+
+pub admissible : (commands lengths relation generations room : List ℕ) → refusedOf commands lengths relation generations room .number ≡ 0
+    → Admissible commands lengths relation generations room
+admissible commands lengths relation generations room z =
+    let (a, f) = showing-passes commands lengths (length relation) (length generations) (length room) z in
+    record { admitted = a; fits = f }
 
 -- ---- the door
 
 module _ (commands lengths σ relation generations room : List ℕ) where
-  abbrev refusal : Told
-  refusal = refused commands lengths (length relation) (length generations)
-
   abbrev all : Told
   all = refusedOf commands lengths relation generations room
 
   -- refused, with nothing done
-  untouched : (v : Verdict) → numbered v ≡ all → all .number ≢ 0
+  pub evidenced-refused : (v : Verdict) → numbered v ≡ all → numbered v .number ≢ 0
       → Evidenced commands lengths σ relation generations room (record { finding = record { verdict = v; sheet = sheetOf [] }; entries = 0 }) relation generations room
-  untouched v e n =
+  evidenced-refused v e n =
+      let m : all .number ≢ 0 = λ z. n (ap (λ (t : Told). t .number) e ∙ z) in
       record {
         refused = λ _. (e, record { sheet = refl; entries = refl; relation-kept = refl; generations-kept = refl; room-kept = refl });
-        reviewed = λ z. absurd (n z);
-        holds = λ z. absurd (n z);
+        reviewed = λ z. absurd (m z);
+        holds = λ z. absurd (m z);
       }
 
-  pub evidenced-refused : (v : Verdict) → numbered v ≡ refusal → numbered v .number ≢ 0
-      → Evidenced commands lengths σ relation generations room (record { finding = record { verdict = v; sheet = sheetOf [] }; entries = 0 }) relation generations room
-  unfolding refusedShowing
-  evidenced-refused v e n =
-      let m : refusal .number ≢ 0 = λ z. n (ap (λ (t : Told). t .number) e ∙ z) in
-      let q : refusal ≡ all = or-first refusal (shortEvidence (rows commands) (length room)) m in
-      untouched v (e ∙ q) (λ z. m (ap (λ (t : Told). t .number) q ∙ z))
-
-  module _ (pass : refusal .number ≡ 0) where
-    pub few-rows : rows commands ≤ mostRows
-    few-rows = admitted commands lengths (length relation) (length generations) pass .keeps .few-rows
-
-    pub evidenced-short : length room < evidenceRoom (rows commands)
-        → Evidenced commands lengths σ relation generations room (record { finding = record { verdict = ShortRoom 4; sheet = sheetOf [] }; entries = 0 }) relation generations room
-    unfolding refusedShowing
-    evidenced-short l =
-        let q : tell 4 4 0 ≡ all = sym (rw (lt-ltb (length room) (evidenceRoom (rows commands)) l)) ∙ or-second refusal (shortEvidence (rows commands) (length room)) pass in
-        untouched (ShortRoom 4) q (λ z. absurd (omega (arith, ap (λ (t : Told). t .number) q)))
-
-    pub evidenced : evidenceRoom (rows commands) ≤ length room → {r : Evidence} {relation′ generations′ room′ : List ℕ}
-        → Reviewed commands lengths σ relation generations (r .finding) relation′ generations′ × HoldsEvidence commands lengths σ room r room′
-        → Evidenced commands lengths σ relation generations room r relation′ generations′ room′
-    unfolding refusedShowing
-    evidenced l (R, W) =
-        let q : tell 0 0 0 ≡ all =
-        sym (rw (le-ltb (length room) (evidenceRoom (rows commands)) l)) ∙ or-second refusal (shortEvidence (rows commands) (length room)) pass in
-        record { refused = λ m. absurd (m (ap (λ (t : Told). t .number) (sym q))); reviewed = λ _. R; holds = λ _. W }
+  pub evidenced : all .number ≡ 0 → {r : Evidence} {relation′ generations′ room′ : List ℕ}
+      → Reviewed commands lengths σ relation generations (r .finding) relation′ generations′ × HoldsEvidence commands lengths σ room r room′
+      → Evidenced commands lengths σ relation generations room r relation′ generations′ room′
+  evidenced pass (R, W) = record { refused = λ m. absurd (m pass); reviewed = λ _. R; holds = λ _. W }

@@ -1,15 +1,16 @@
 -- The schedules that are written as evidence are that, over a clean schedule and what reaches what over its generations. Assumes nothing.
 use mathlib.Core.Path.{_≡_, refl, sym, ap, _∙_}
 use mathlib.Core.Logic.{_⊎_, inl, inr, ⊎-elim, _≢_}
-use mathlib.Core.Bool.{Bool, not}
+use mathlib.Core.Bool.{Bool, true, not}
 use mathlib.Core.List.{List, reverse}
-use Prim.Native.Nat.{ℕ, _≤_, _<_}
+use Prim.Native.Nat.{ℕ, _<_}
 use native.Mathlib.Omega.{arith}
 use lib.Dec.{eqb}
 use lib.ListN.{length}
 use borrow.Author.Tests.{eq-eqb, ne-eqb}
 use Rattle.tables.specs.Rows.{rows}
-use Rattle.tables.specs.Rules.{Keeps}
+use Rattle.rules.specs.Rules.{Keeps}
+use Rattle.verdicts.specs.Numbers.{endsUnclean}
 use Rattle.relation.specs.Chains.{here}
 use Rattle.relation.proofs.Truth.{isnt, right}
 use Rattle.schedules.specs.Machine.{Program}
@@ -18,8 +19,8 @@ use Rattle.schedules.specs.Order.{Reaches, Reuse, NoReuse, reach}
 use Rattle.schedules.specs.Claims as claims
 use Rattle.schedules.proofs.Table.{decides}
 use Rattle.schedules.proofs.Theorems.{sound}
-use Rattle.replay.specs.Ending.{judged}
-use Rattle.replay.specs.Replay.{played, generation}
+use Rattle.steps.specs.Ending.{judged}
+use Rattle.steps.specs.Going.{played, generation}
 use Rattle.replay.specs.Program.{program}
 use Rattle.replay.specs.Writer.{apartFrom, apartSchedule}
 use Rattle.replay.specs.Schedules.{Complete, stopped, mismatched, Clean, Precedes}
@@ -84,7 +85,7 @@ module _ {table lengths : List ℕ} (K : Keeps table lengths) {σ : List ℕ} (C
 
       Other : Type 0
       Other =
-          ((7 ≤ judged lengths (played table lengths τ′) .number) × (judged lengths (played table lengths τ′) .number ≤ 9))
+          (endsUnclean (judged lengths (played table lengths τ′) .number) ≡ true)
           ⊎ ((c : ℕ) × (c < rows table) × (generation (played table lengths τ′) c ≢ g c))
 
       dirty : ¬ threads.Clean P H (reverse τ′) → Other

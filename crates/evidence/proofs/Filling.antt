@@ -11,7 +11,7 @@ use borrow.Author.Tests.{eq-eqb, ne-eqb}
 use Rattle.tables.specs.Rows.{rows}
 use Rattle.sheet.specs.declared.Sheet.{Sheet}
 use Rattle.sheet.specs.Sheet.{mostKept, firstKept}
-use Rattle.replay.specs.Writer.{FilledBy}
+use Rattle.steps.specs.Writing.{FilledBy}
 use Rattle.evidence.specs.Evidence.{bothWays, against, evidenceOf}
 use Rattle.evidence.specs.Parts.{PutsAt, FitsAt, FitsAll, Showable}
 

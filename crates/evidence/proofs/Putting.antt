@@ -8,17 +8,17 @@ use native.Mathlib.Numerals.{add-one}
 use native.Mathlib.Omega.{arith}
 use lib.ListN.{length, getD, take, drop, length-append, length-drop, take-append-drop}
 use lib.Seq.{length-take-le, drop-length, drop-drop, drop-cons, drop-append-add, take-at, getD-take}
-use borrow.Author.Tests.{le-ltb}
 use borrow.Rule.Slice.PartMut.{midOf, postOf, putMid, post-is}
 use Rattle.tables.specs.Rows.{rows}
 use Rattle.verdicts.specs.Verdicts.{numbered}
 use Rattle.verdicts.specs.declared.Told.{Told}
-use Rattle.tables.proofs.Rules.{kept}
 use Rattle.sheet.specs.declared.Pair.{Pair}
 use Rattle.sheet.specs.Sheet.{pair}
 use Rattle.replay.specs.declared.writer.Written.{Written}
-use Rattle.replay.specs.Writer.{unwritten, apartFrom, pickedFirst, apartSchedule}
+use Rattle.replay.specs.Writer.{apartFrom, apartSchedule}
+use Rattle.steps.specs.Writing.{pickedFirst}
 use Rattle.replay.specs.Doors.{WritesBy}
+use Rattle.replay.proofs.Refusals.{keeps-written}
 use Rattle.replay.proofs.Places.{schedule-by-few}
 use Rattle.evidence.specs.Evidence.{bothWays, firstFirst, secondFirst}
 use Rattle.evidence.specs.Parts.{PutsAt, FitsAt, FitsAll}
@@ -42,11 +42,10 @@ apart-few commands lengths ρ c d = schedule-by-few commands lengths (pickedFirs
 module _ {σ commands lengths room : List ℕ} {at : ℕ} (short : length σ ≤ rows commands) (F : FitsAt commands lengths room at)
     {after : List ℕ} {w : Written} (W : WritesBy σ commands lengths (midOf at (length room - at) room) after w) where
   zero : numbered (w .verdict) .number ≡ 0
-  unfolding unwritten
   zero =
       let n : rows commands ≤ length (midOf at (length room - at) room) =
       omega (arith, F .fits, ap length (part-is room at (omega (arith, F .fits))), length-drop at room) in
-      ap (λ (t : Told). t .number) (W .verdict) ∙ rw (kept commands lengths (F .keeps), le-ltb (length (midOf at (length room - at) room)) (rows commands) n)
+      ap (λ (t : Told). t .number) (W .verdict) ∙ keeps-written commands lengths (length (midOf at (length room - at) room)) (F .keeps) n
 
   pub wrote-few : w .length ≤ rows commands
   wrote-few = omega (arith, W .wrote zero .long)

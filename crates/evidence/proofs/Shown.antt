@@ -1,14 +1,14 @@
 -- What a review found, and the evidence for it. Assumes nothing.
 use mathlib.Core.Path.{_≡_, sym, ap, _∙_}
-use mathlib.Core.Logic.{_⊎_, ⊎-elim, by-cases, _≢_}
+use mathlib.Core.Logic.{⊎-elim}
 use mathlib.Core.Bool.{Bool, true, false}
 use mathlib.Core.List.{List, []}
 use Prim.Native.Nat.{ℕ, _≤_, _<_}
-use native.Mathlib.Omega.{arith}
-use native.Mathlib.Decide.{ℕ-discrete, decLe}
 use lib.ListN.{length, getD}
 use Rattle.tables.specs.Rows.{rows}
+use Rattle.verdicts.specs.Numbers.{hasPairs, fills}
 use Rattle.verdicts.specs.declared.Told.{Told}
+use Rattle.verdicts.proofs.Numbers.{pairs-fill}
 use Rattle.relation.specs.Table.{related}
 use Rattle.relation.proofs.Truth.{split}
 use Rattle.sheet.specs.declared.Pair.{Pair}
@@ -17,14 +17,14 @@ use Rattle.sheet.specs.Sheet.{pair, sheetOf, keptPairs, firstKept}
 use Rattle.sheet.proofs.Sheets.{sheet-long}
 use Rattle.findings.specs.declared.finding.Finding.{Finding}
 use Rattle.findings.specs.Findings.{faultTold, faultPairs}
-use Rattle.replay.specs.InOrder.{orElse}
-use Rattle.replay.specs.Ending.{judged}
-use Rattle.replay.specs.Replay.{played}
-use Rattle.replay.proofs.Refusals.{or-second}
+use Rattle.verdicts.specs.InOrder.{orElse}
+use Rattle.steps.specs.Ending.{judged}
+use Rattle.steps.specs.Going.{played}
+use Rattle.verdicts.proofs.InOrder.{or-second}
 use Rattle.rooms.specs.Refusals.{refused}
 use Rattle.order.proofs.Reaching.{related-reaches}
 use Rattle.rooms.proofs.Refusals.{Admitted, admitted}
-use Rattle.review.specs.Judge.{generations, reaches, verdictOf, fills}
+use Rattle.review.specs.Judge.{generations, reaches, verdictOf}
 use Rattle.review.specs.Agreement.{number, Reviewed}
 use Rattle.evidence.specs.Evidence.{Disputes, HasBefore, against, firstFirst, secondFirst, evidenceOf}
 use Rattle.evidence.specs.Parts.{Showable}
@@ -41,11 +41,9 @@ module _ {commands lengths σ relation room : List ℕ} {r : Finding} {relation�
   unfolding verdictOf
   told = ap (λ (t : Told). t .number) (R .demand₂ .verdict ∙ sym (or-second (refused commands lengths (length relation) (length room)) _ pass))
 
-  module _ (fault : 10 ≤ number r) where
+  module _ (fault : hasPairs (number r) ≡ true) where
     full : fills (number r) ≡ true
-    full =
-        by-cases (ℕ-discrete (number r) 10) (λ (e : number r ≡ 10). rw e)
-        (λ (n : number r ≢ 10). let e : number r ≡ 11 = omega (arith, R .demand₁ .told) in rw e)
+    full = pairs-fill (number r) fault
 
     sheet-is : r .sheet ≡ sheetOf (faultPairs commands lengths (generations commands lengths σ) (reaches commands lengths σ))
     sheet-is = R .demand₂ .sheet full
@@ -89,8 +87,9 @@ module _ {commands lengths σ relation room : List ℕ} {r : Finding} {relation�
   -- the evidence over the room's table is that over what reaches what
   pub evidence-is : evidenceOf commands lengths (related relation′ (rows commands)) (number r) (r .sheet) ≡ evidenceOf commands lengths (reaches commands lengths σ) (number r) (r .sheet)
   evidence-is =
-      by-cases (decLe 10 (number r))
-      (λ (l : 10 ≤ number r). evidence-alike (A .keeps) (related-is l) (number r) (r .sheet) (ten-commands gives) (eleven-commands gives))
-      (λ (n : ¬ (10 ≤ number r)).
-      let none : (ρ : ℕ → ℕ → Bool) → evidenceOf commands lengths ρ (number r) (r .sheet) ≡ [] = λ ρ. nothing-of commands lengths ρ (number r) (r .sheet) (λ e. n (omega arith)) (λ e. n (omega arith)) in
+      ⊎-elim
+      (λ (t : hasPairs (number r) ≡ true). evidence-alike (A .keeps) (related-is t) (number r) (r .sheet) (ten-commands gives) (eleven-commands gives))
+      (λ (f : hasPairs (number r) ≡ false).
+      let none : (ρ : ℕ → ℕ → Bool) → evidenceOf commands lengths ρ (number r) (r .sheet) ≡ [] = λ ρ. nothing-of commands lengths ρ (number r) (r .sheet) f in
       none _ ∙ sym (none _))
+      (split (hasPairs (number r)))

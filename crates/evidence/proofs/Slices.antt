@@ -1,6 +1,6 @@
 -- Which schedules stand where in the room, and that tables of what reaches what that are alike write the same. Assumes nothing.
 use mathlib.Core.Path.{_≡_, refl, sym, ap, ap₂, _∙_}
-use mathlib.Core.Logic.{⊎-elim, _≢_}
+use mathlib.Core.Logic.{⊎-elim}
 use mathlib.Core.Bool.{Bool, true, false}
 use mathlib.Core.List.{List, [], _∷_, _++_, append-assoc}
 use Prim.Native.Nat.{ℕ, zero, suc, _+_, _*_, _<_}
@@ -11,7 +11,9 @@ use lib.ListN.{length, getD, take, drop, length-append}
 use lib.Seq.{take-at, drop-append-add}
 use borrow.Author.Tests.{eqb-true, ne-eqb}
 use Rattle.tables.specs.Rows.{rows}
-use Rattle.tables.specs.Rules.{Keeps}
+use Rattle.rules.specs.Rules.{Keeps}
+use Rattle.verdicts.specs.Numbers.{hasPairs}
+use Rattle.verdicts.proofs.Numbers.{no-pairs}
 use Rattle.relation.proofs.Truth.{split}
 use Rattle.sheet.specs.declared.Pair.{Pair}
 use Rattle.sheet.specs.declared.Sheet.{Sheet}
@@ -90,9 +92,9 @@ module _ (commands lengths : List ℕ) (ρ : ℕ → ℕ → Bool) (m : ℕ) whe
 
 -- ---- other verdicts write nothing
 
-pub nothing-of : (commands lengths : List ℕ) (ρ : ℕ → ℕ → Bool) (n : ℕ) (s : Sheet) → n ≢ 10 → n ≢ 11 → evidenceOf commands lengths ρ n s ≡ []
+pub nothing-of : (commands lengths : List ℕ) (ρ : ℕ → ℕ → Bool) (n : ℕ) (s : Sheet) → hasPairs n ≡ false → evidenceOf commands lengths ρ n s ≡ []
 unfolding evidenceOf
-nothing-of commands lengths ρ n s a b = rw (ne-eqb n 10 a, ne-eqb n 11 b)
+nothing-of commands lengths ρ n s f = let (a, b) = no-pairs n f in rw (ne-eqb n 10 a, ne-eqb n 11 b)
 
 -- ---- what reaches what, alike on commands
 

@@ -1,17 +1,20 @@
 -- The evidence for verdicts 10 and 11, by the verdict and the sheet alone. Assumes nothing.
-use mathlib.Core.Path.{_≡_, refl, sym, ap, _∙_}
+use mathlib.Core.Path.{_≡_, refl, sym, ap, subst, _∙_}
 use mathlib.Core.Logic.{by-cases, _≢_}
 use mathlib.Core.Bool.{true}
 use mathlib.Core.List.{List, [], _∷_, reverse}
-use Prim.Native.Nat.{ℕ, _≤_, _<_}
+use Prim.Native.Nat.{ℕ, _<_}
 use native.Mathlib.Omega.{arith}
 use native.Mathlib.Decide.{ℕ-discrete}
 use lib.ListN.{length, getD, take, length-take}
 use lib.Seq.{getD-take}
 use Rattle.tables.specs.Rows.{rows}
-use Rattle.tables.specs.Rules.{Keeps}
+use Rattle.rules.specs.Rules.{Keeps}
 use Rattle.verdicts.specs.Verdicts.{tell}
+use Rattle.verdicts.specs.Numbers.{isEnding, hasPairs, fills}
 use Rattle.verdicts.specs.declared.Told.{Told}
+use Rattle.verdicts.proofs.Numbers.{pairs-fill, ending-unfilled}
+use Rattle.relation.proofs.Truth.{clashing}
 use Rattle.schedules.specs.Machine.{Program}
 use Rattle.schedules.specs.Order.{reach, Reuse, NoReuse}
 use Rattle.schedules.specs.Threads as threads
@@ -24,14 +27,14 @@ use Rattle.faults.specs.declared.faults.Fault.the-variants as fault
 use Rattle.faults.specs.Faults.{faults, race, pairOf, faulty}
 use Rattle.findings.specs.Findings.{firstPair, orPairs, faultTold, faultPairs}
 use Rattle.faults.proofs.Pairs.{in-order, reuse-is, race-is}
-use Rattle.replay.specs.InOrder.{orElse}
-use Rattle.replay.specs.Ending.{judged}
-use Rattle.replay.specs.Replay.{played}
+use Rattle.verdicts.specs.InOrder.{orElse}
+use Rattle.steps.specs.Ending.{judged}
+use Rattle.steps.specs.Going.{played}
 use Rattle.replay.specs.Program.{program}
 use Rattle.replay.specs.Schedules.{Clean}
-use Rattle.replay.proofs.Judged.{judged-small, clean-told}
+use Rattle.replay.proofs.Judged.{judged-ending, clean-told}
 use Rattle.replay.proofs.Programs as programs
-use Rattle.replay.proofs.Refusals.{or-first, or-second}
+use Rattle.verdicts.proofs.InOrder.{or-first, or-second}
 use Rattle.review.specs.Judge.{generations, reaches}
 use Rattle.review.specs.Agreement.{number}
 use Rattle.review.proofs.Judging.{settled}
@@ -42,10 +45,12 @@ use Rattle.evidence.proofs.Slices.{AreCommands}
 -- ---- the verdict by its number
 
 -- a verdict of 10 or 11 is that of the search
-told-faults : (a b : Told) → a .number ≤ 9 → 10 ≤ orElse a b .number → (a .number ≡ 0) × (orElse a b ≡ b)
+told-faults : (a b : Told) → isEnding (a .number) ≡ true → hasPairs (orElse a b .number) ≡ true → (a .number ≡ 0) × (orElse a b ≡ b)
 told-faults a b l h =
     by-cases (ℕ-discrete (a .number) 0) (λ (e : a .number ≡ 0). (e, sym (or-second a b e)))
-    (λ (n : a .number ≢ 0). absurd (omega (arith, ap (λ (t : Told). t .number) (or-first a b n))))
+    (λ (n : a .number ≢ 0).
+    let f : fills (a .number) ≡ true = subst (λ (t : Told). fills (t .number) ≡ true) (sym (or-first a b n)) (pairs-fill (orElse a b .number) h) in
+    clashing f (ending-unfilled (a .number) l n))
 
 -- what 10 and 11 say of the two lists of faults
 by-ten : (ps qs : List Pair) → firstPair 10 ps (firstPair 11 qs (tell 0 0 0)) .number ≡ 10 → (p : Pair) × (rest : List Pair) × (ps ≡ p ∷ rest) × (orPairs ps qs ≡ ps)
@@ -62,7 +67,7 @@ by-eleven [] qs e = (refl, refl)
 pub record Gives (commands lengths σ : List ℕ) (n : ℕ) (s : Sheet) : Type 0 where
   pub keeps : Keeps commands lengths
   pub told : n ≡ orElse (judged lengths (played commands lengths σ)) (faultTold commands lengths (generations commands lengths σ) (reaches commands lengths σ)) .number
-  pub sheet : 10 ≤ n → s ≡ sheetOf (faultPairs commands lengths (generations commands lengths σ) (reaches commands lengths σ))
+  pub sheet : hasPairs n ≡ true → s ≡ sheetOf (faultPairs commands lengths (generations commands lengths σ) (reaches commands lengths σ))
 
 module _ {commands lengths σ : List ℕ} {n : ℕ} {s : Sheet} (G : Gives commands lengths σ n s) where
   abbrev P : Program
@@ -74,10 +79,10 @@ module _ {commands lengths σ : List ℕ} {n : ℕ} {s : Sheet} (G : Gives comma
   abbrev found : Fault → List Pair
   found = faults commands lengths g (reach P g)
 
-  module _ (fault : 10 ≤ n) where
+  module _ (fault : hasPairs n ≡ true) where
     both : (judged lengths (played commands lengths σ) .number ≡ 0)
         × (orElse (judged lengths (played commands lengths σ)) (faultTold commands lengths g (reach P g)) ≡ faultTold commands lengths g (reach P g))
-    both = told-faults (judged lengths (played commands lengths σ)) _ (judged-small (G .keeps) σ) (omega (arith, G .told))
+    both = told-faults (judged lengths (played commands lengths σ)) _ (judged-ending (G .keeps) σ) (ap hasPairs (sym (G .told)) ∙ fault)
 
     pub clean : Clean commands lengths σ
     clean = clean-told commands lengths σ (both .0)
@@ -95,8 +100,8 @@ module _ {commands lengths σ : List ℕ} {n : ℕ} {s : Sheet} (G : Gives comma
 
   -- the sheet is that of the faults of a kind
   module _ (ten : n ≡ 10) where
-    late : 10 ≤ n
-    late = omega arith
+    late : hasPairs n ≡ true
+    late = rw ten
 
     lists : (p : Pair) × (rest : List Pair) × (found fault.Reuse ≡ p ∷ rest) × (orPairs (found fault.Reuse) (found fault.Race) ≡ found fault.Reuse)
     lists = by-ten (found fault.Reuse) (found fault.Race) (sym (number-is late) ∙ ten)
@@ -107,7 +112,7 @@ module _ {commands lengths σ : List ℕ} {n : ℕ} {s : Sheet} (G : Gives comma
         let (p, rest, q, or) = lists in
         let (c₂, c₁, l₂, l₁, t, e) = placed fault.Reuse 0 (omega (arith, ap length q)) in
         let is : firstKept s ≡ p = ap firstKept (G .sheet late) ∙ rw (or, q) in
-        (c₁, c₂, l₁, l₂, reuse-is commands lengths g (G .keeps) c₁ c₂ l₁ l₂ .0 t, is ∙ ap (λ (ps : List Pair). getD ps 0 (pair 0 0)) (sym q) ∙ e)
+        (c₁, c₂, l₁, l₂, reuse-is commands lengths g c₁ c₂ l₁ l₂ .0 t, is ∙ ap (λ (ps : List Pair). getD ps 0 (pair 0 0)) (sym q) ∙ e)
 
     pub ten-commands : AreCommands commands (firstKept s)
     ten-commands = let (c₁, c₂, l₁, l₂, _, e) = first-fault in rw e (l₁, l₂)
@@ -118,8 +123,8 @@ module _ {commands lengths σ : List ℕ} {n : ℕ} {s : Sheet} (G : Gives comma
         rw e (disputes (G .keeps) (clean late) c₁ c₂ u)
 
   module _ (eleven : n ≡ 11) where
-    after : 10 ≤ n
-    after = omega arith
+    after : hasPairs n ≡ true
+    after = rw eleven
 
     races : (found fault.Reuse ≡ []) × (orPairs (found fault.Reuse) (found fault.Race) ≡ found fault.Race)
     races = by-eleven (found fault.Reuse) (found fault.Race) (sym (number-is after) ∙ eleven)

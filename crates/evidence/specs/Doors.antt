@@ -1,31 +1,33 @@
 -- What a review with evidence promises.
 use mathlib.Core.Path.{_≡_}
 use mathlib.Core.Logic.{_≢_}
-use mathlib.Core.Bool.{cond}
-use mathlib.Core.List.{List, []}
+use mathlib.Core.Bool.{false}
+use mathlib.Core.List.{List, [], _∷_, _++_}
 use Prim.Native.Nat.{ℕ, _+_, _*_, _≤_, _<_}
-use lib.Dec.{ltb}
 use lib.ListN.{length, getD, take, drop}
 use Rattle.tables.specs.Rows.{rows}
-use Rattle.verdicts.specs.Verdicts.{tell, numbered}
+use Rattle.rules.specs.Rules.{checked}
+use Rattle.verdicts.specs.Verdicts.{numbered}
+use Rattle.verdicts.specs.Numbers.{hasPairs}
 use Rattle.verdicts.specs.declared.Told.{Told}
 use Rattle.sheet.specs.declared.Pair.{Pair}
 use Rattle.sheet.specs.Sheet.{pair, sheetOf, keptPairs}
-use Rattle.replay.specs.InOrder.{orElse}
-use Rattle.replay.specs.Writer.{FilledBy}
-use Rattle.rooms.specs.Refusals.{refused}
+use Rattle.verdicts.specs.InOrder.{orElse}
+use Rattle.steps.specs.Writing.{FilledBy}
+use Rattle.rooms.specs.Short.{roomOf, firstShort}
+use Rattle.rooms.specs.Refusals.{reviewRooms, refused}
 use Rattle.review.specs.Judge.{reaches}
 use Rattle.review.specs.Agreement.{number, Reviewed}
 use Rattle.evidence.specs.declared.door.Evidence.{Evidence}
 use Rattle.evidence.specs.Evidence.{Disputes, HasBefore, evidenceRoom, evidenceOf}
 
--- 4: evidence room short (4)
-abbrev pub shortEvidence : ℕ → ℕ → Told
-shortEvidence m room = cond (ltb room (evidenceRoom m)) (tell 4 4 0) (tell 0 0 0)
+-- the rooms of a review with evidence, the lowest digit first: those of a review, and the evidence room (4)
+abbrev pub evidenceRooms : (m relation generations given : ℕ) → List (List ℕ)
+evidenceRooms m relation generations given = reviewRooms m relation generations ++ roomOf 4 (evidenceRoom m) given ∷ []
 
--- 1 to 4, of tables and the lengths of the three rooms; the lowest digit if several are short
+-- 1 to 4, of tables and the lengths of the three rooms
 unfoldable pub refusedShowing : List ℕ → List ℕ → (relation generations room : ℕ) → Told
-refusedShowing commands lengths relation generations room = orElse (refused commands lengths relation generations) (shortEvidence (rows commands) room)
+refusedShowing commands lengths relation generations room = orElse (checked commands lengths) (firstShort (evidenceRooms (rows commands) relation generations room))
 
 -- the same of three rooms that are lent
 abbrev pub refusedOf : (commands lengths relation generations room : List ℕ) → Told
@@ -51,7 +53,7 @@ pub record HoldsEvidence (commands lengths schedule room : List ℕ) (r : Eviden
       → Opposes commands lengths room′ k (getD (keptPairs (r .finding .sheet)) k (pair 0 0))
   pub count : number (r .finding) ≡ 11 → r .entries ≡ length (keptPairs (r .finding .sheet)) * rows commands * 2
   -- other verdicts write nothing
-  pub nothing : number (r .finding) ≢ 10 → number (r .finding) ≢ 11 → (r .entries ≡ 0) × (room′ ≡ room)
+  pub nothing : hasPairs (number (r .finding)) ≡ false → (r .entries ≡ 0) × (room′ ≡ room)
 
 -- Tables and rooms pass.
 pub record Admissible (commands lengths relation generations room : List ℕ) : Type 0 where

@@ -1,15 +1,17 @@
 -- What evidence is, over the replay's own definitions, and which schedules are written.
+use mathlib.Core.Path.{_≡_}
 use mathlib.Core.Logic.{_⊎_, _≢_}
-use mathlib.Core.Bool.{Bool, cond}
+use mathlib.Core.Bool.{Bool, true, cond}
 use mathlib.Core.List.{List, [], _∷_, _++_}
-use Prim.Native.Nat.{ℕ, _*_, _≤_, _<_}
+use Prim.Native.Nat.{ℕ, _*_, _<_}
 use lib.Dec.{eqb}
 use Rattle.tables.specs.Rows.{rows}
+use Rattle.verdicts.specs.Numbers.{endsUnclean}
 use Rattle.sheet.specs.declared.Pair.{Pair}
 use Rattle.sheet.specs.declared.Sheet.{Sheet}
 use Rattle.sheet.specs.Sheet.{keptPairs, firstKept}
-use Rattle.replay.specs.Ending.{judged}
-use Rattle.replay.specs.Replay.{played, generation}
+use Rattle.steps.specs.Ending.{judged}
+use Rattle.steps.specs.Going.{played, generation}
 use Rattle.replay.specs.Schedules.{Complete, Precedes}
 use Rattle.replay.specs.Writer.{apartSchedule}
 
@@ -19,7 +21,7 @@ module _ (commands lengths : List ℕ) where
   pub record Disputes (σ τ : List ℕ) : Type 0 where
     pub complete : Complete commands lengths τ
     pub other :
-        ((7 ≤ judged lengths (played commands lengths τ) .number) × (judged lengths (played commands lengths τ) .number ≤ 9))
+        (endsUnclean (judged lengths (played commands lengths τ) .number) ≡ true)
         ⊎ ((c : ℕ) × (c < rows commands) × (generation (played commands lengths τ) c ≢ generation (played commands lengths σ) c))
 
   -- Half of the evidence for a race: a legal, complete schedule with x before y.

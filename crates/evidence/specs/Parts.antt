@@ -4,11 +4,24 @@ use mathlib.Core.List.{List, _++_}
 use Prim.Native.Nat.{ℕ, _+_, _*_, _≤_}
 use lib.ListN.{length, take, drop}
 use Rattle.tables.specs.Rows.{rows}
-use Rattle.tables.specs.Rules.{Keeps}
+use Rattle.rules.specs.Rules.{Keeps}
+use Rattle.relation.specs.Table.{related}
 use Rattle.sheet.specs.declared.Pair.{Pair}
 use Rattle.sheet.specs.declared.Sheet.{Sheet}
 use Rattle.sheet.specs.Sheet.{mostKept}
-use Rattle.evidence.specs.Evidence.{evidenceRoom}
+use Rattle.replay.specs.Writer.{apartSchedule}
+use Rattle.evidence.specs.Evidence.{bothWays, evidenceOf, evidenceRoom}
+
+-- over what a lent relation room says reaches what
+module _ (commands lengths relation : List ℕ) where
+  abbrev pub apartIn : (c d : ℕ) → List ℕ
+  apartIn = apartSchedule commands lengths (related relation (rows commands))
+
+  abbrev pub bothWaysIn : List Pair → List ℕ
+  bothWaysIn = bothWays commands lengths (related relation (rows commands))
+
+  abbrev pub evidenceIn : ℕ → Sheet → List ℕ
+  evidenceIn = evidenceOf commands lengths (related relation (rows commands))
 
 -- numbers stand in a room from `at` on, and end before r; the rest is kept
 pub record PutsAt (σ before after : List ℕ) (at r : ℕ) : Type 0 where

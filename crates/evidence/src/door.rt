@@ -1,19 +1,17 @@
 // A review with evidence.
 ghost use mathlib.Core.Path.{_≡_};
-ghost use Rattle.tables.specs.Rows.{rows};
-ghost use Rattle.relation.specs.Table.{related};
-ghost use Rattle.replay.specs.Writer.{FilledBy};
-ghost use Rattle.evidence.specs.Evidence.{evidenceOf};
-ghost use Rattle.evidence.specs.Parts.{Showable};
+ghost use Rattle.steps.specs.Writing.{FilledBy};
+ghost use Rattle.evidence.specs.Parts.{evidenceIn, Showable};
 ghost use Rattle.review.specs.Agreement.{Reviewed};
-ghost use Rattle.evidence.specs.Doors.{HoldsEvidence, Admissible, Evidenced};
+ghost use Rattle.verdicts.specs.Verdicts.{numbered};
+ghost use Rattle.evidence.specs.Doors.{refusedShowing, HoldsEvidence, Admissible, Evidenced};
 use crate::writing::write_at;
 use crate::writing::write_races;
 use findings::Finding;
 use findings::bare;
 use review::review;
-use rooms::admits;
 use rooms::refuse;
+use rooms::short_room;
 use sheet::Sheet;
 use sheet::kept;
 use verdicts::Verdict;
@@ -48,7 +46,8 @@ fn show(
     room: &mut [u32],
 ) -> usize
     requires { ⌜ Showable (now commands) (now lengths) sheet (now room) ⌝ }
-    ensures { λ r. ⌜ FilledBy (evidenceOf (now (commands .entry)) (now (lengths .entry)) (related (now (relation .entry)) (rows (now (commands .entry)))) number sheet) (now (room .entry)) (now (room .exit)) r ⌝ }
+    ensures { λ r. ⌜ FilledBy (evidenceIn (now (commands .entry)) (now (lengths .entry)) (now (relation .entry)) number sheet)
+        (now (room .entry)) (now (room .exit)) r ⌝ }
 {
     let pairs = sheet.pairs;
     if number == 10 {
@@ -80,7 +79,9 @@ fn review_shown(
     room: &mut [u32],
 ) -> Evidence
     requires { ⌜ Admissible (now commands) (now lengths) (now relation) (now generations) (now room) ⌝ }
-    ensures { λ r. ⌜ Reviewed (now (commands .entry)) (now (lengths .entry)) (now (schedule .entry)) (now (relation .entry)) (now (generations .entry)) (r .finding) (now (relation .exit)) (now (generations .exit)) × HoldsEvidence (now (commands .entry)) (now (lengths .entry)) (now (schedule .entry)) (now (room .entry)) r (now (room .exit)) ⌝ }
+    ensures { λ r. ⌜ Reviewed (now (commands .entry)) (now (lengths .entry)) (now (schedule .entry)) (now (relation .entry)) (now (generations .entry))
+        (r .finding) (now (relation .exit)) (now (generations .exit))
+        × HoldsEvidence (now (commands .entry)) (now (lengths .entry)) (now (schedule .entry)) (now (room .entry)) r (now (room .exit)) ⌝ }
 {
     let finding = review(commands, lengths, schedule, relation, generations);
     let verdict = finding.verdict;
@@ -88,6 +89,24 @@ fn review_shown(
     let number = verdict.number().number;
     let entries = show(commands, lengths, relation, number, sheet, room);
     Evidence { finding, entries }
+}
+
+// 1 to 4, or 0, of tables and the lengths of the three rooms.
+fn refuse_showing(
+    commands: &[u32],
+    lengths: &[u32],
+    relation: usize,
+    generations: usize,
+    room: usize,
+) -> Verdict
+    ensures { λ r. ⌜ numbered r ≡ refusedShowing (now (commands .entry)) (now (lengths .entry)) relation generations room ⌝ }
+{
+    let refusal = refuse(commands, lengths, relation, generations);
+    if refusal.number().number != 0 {
+        return refusal;
+    }
+    let needed = Evidence::ROOM * (commands.len() / 3);
+    short_room(&[[4, needed, room]])
 }
 
 // Any tables, any schedule, any rooms. All rooms are tested before one is touched.
@@ -99,13 +118,19 @@ pub fn review_evidence(
     generations: &mut [u32],
     room: &mut [u32],
 ) -> Evidence
-    ensures { λ r. ⌜ Evidenced (now (commands .entry)) (now (lengths .entry)) (now (schedule .entry)) (now (relation .entry)) (now (generations .entry)) (now (room .entry)) r (now (relation .exit)) (now (generations .exit)) (now (room .exit)) ⌝ }
+    ensures { λ r. ⌜ Evidenced (now (commands .entry)) (now (lengths .entry)) (now (schedule .entry))
+        (now (relation .entry)) (now (generations .entry)) (now (room .entry))
+        r (now (relation .exit)) (now (generations .exit)) (now (room .exit)) ⌝ }
 {
-    if !admits(commands, lengths, relation.len(), generations.len()) {
-        return nothing(bare(refuse(commands, lengths, relation.len(), generations.len())));
-    }
-    if room.len() < Evidence::ROOM * (commands.len() / 3) {
-        return nothing(bare(Verdict::ShortRoom(4)));
+    let refusal = refuse_showing(
+        commands,
+        lengths,
+        relation.len(),
+        generations.len(),
+        room.len(),
+    );
+    if refusal.number().number != 0 {
+        return nothing(bare(refusal));
     }
     review_shown(commands, lengths, schedule, relation, generations, room)
 }

@@ -1,10 +1,6 @@
 // Schedules into a room, one after the other.
 ghost use lib.ListN.{take};
-ghost use Rattle.tables.specs.Rows.{rows};
-ghost use Rattle.relation.specs.Table.{related};
-ghost use Rattle.replay.specs.Writer.{apartSchedule};
-ghost use Rattle.evidence.specs.Evidence.{bothWays};
-ghost use Rattle.evidence.specs.Parts.{PutsAt, FitsAt, FitsAll};
+ghost use Rattle.evidence.specs.Parts.{apartIn, bothWaysIn, PutsAt, FitsAt, FitsAll};
 use replay::write_apart;
 use sheet::Pair;
 use sheet::Sheet;
@@ -20,7 +16,7 @@ pub(crate) fn write_at(
     at: usize,
 ) -> usize
     requires { ⌜ FitsAt (now commands) (now lengths) (now room) at ⌝ }
-    ensures { λ r. ⌜ PutsAt (apartSchedule (now (commands .entry)) (now (lengths .entry)) (related (now (relation .entry)) (rows (now (commands .entry)))) c d) (now (room .entry)) (now (room .exit)) at r ⌝ }
+    ensures { λ r. ⌜ PutsAt (apartIn (now (commands .entry)) (now (lengths .entry)) (now (relation .entry)) c d) (now (room .entry)) (now (room .exit)) at r ⌝ }
 {
     let written = write_apart(commands, lengths, relation, c, d, &mut room[at..]);
     at + written.length
@@ -36,7 +32,8 @@ pub(crate) fn write_races(
     room: &mut [u32],
 ) -> usize
     requires { ⌜ FitsAll (now commands) (now lengths) pairs n (now room) ⌝ }
-    ensures { λ r. ⌜ PutsAt (bothWays (now (commands .entry)) (now (lengths .entry)) (related (now (relation .entry)) (rows (now (commands .entry)))) (take n pairs)) (now (room .entry)) (now (room .exit)) 0 r ⌝ }
+    ensures { λ r. ⌜ PutsAt (bothWaysIn (now (commands .entry)) (now (lengths .entry)) (now (relation .entry)) (take n pairs))
+        (now (room .entry)) (now (room .exit)) 0 r ⌝ }
 {
     let mut at = 0;
     let mut k = 0;

@@ -11,13 +11,13 @@ use lib.ListN.{length, getD}
 use borrow.Author.Tests.{ltb-true}
 use Rattle.tables.specs.Lowest.{lowest}
 use Rattle.tables.specs.Rows.{rows}
-use Rattle.tables.specs.Rules.{Keeps}
+use Rattle.rules.specs.Rules.{Keeps}
 use Rattle.relation.proofs.Truth.{split}
 use Rattle.sheet.specs.declared.Pair.{Pair}
 use Rattle.sheet.specs.declared.Sheet.{Sheet}
 use Rattle.sheet.specs.Sheet.{pair, keptPairs, firstKept}
-use Rattle.replay.specs.Ending.{judged}
-use Rattle.replay.specs.Replay.{played, generation}
+use Rattle.steps.specs.Ending.{judged}
+use Rattle.steps.specs.Going.{played, generation}
 use Rattle.replay.specs.Writer.{apartSchedule}
 use Rattle.replay.proofs.Picking.{lowest-alike, apart-alike}
 use Rattle.wording.specs.declared.Shown.{Shown}

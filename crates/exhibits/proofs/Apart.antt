@@ -5,16 +5,15 @@ use Prim.Native.Nat.{ℕ, _≤_}
 use native.Mathlib.Omega.{arith}
 use lib.ListN.{length, take, drop, replicate, length-append, length-replicate}
 use lib.Seq.{length-take-le, take-at}
-use borrow.Author.Tests.{le-ltb}
 use Rattle.tables.specs.Limits.{mostRows}
 use Rattle.tables.specs.Rows.{rows}
-use Rattle.tables.specs.Rules.{Keeps}
+use Rattle.rules.specs.Rules.{Keeps}
 use Rattle.verdicts.specs.declared.Told.{Told}
-use Rattle.tables.proofs.Rules.{kept}
 use Rattle.printing.specs.Putting.{PutsBytes}
 use Rattle.printing.proofs.Placing.{puts-on}
 use Rattle.replay.specs.declared.writer.Written.{Written}
-use Rattle.replay.specs.Writer.{unwritten, FilledBy, Fits}
+use Rattle.replay.proofs.Refusals.{keeps-written}
+use Rattle.steps.specs.Writing.{FilledBy}
 use Rattle.replay.specs.Doors.{WritesBy}
 use Rattle.wording.specs.declared.Shown.{Shown}
 use Rattle.exhibits.specs.Shown.{shownBy}
@@ -22,16 +21,14 @@ use Rattle.wording.specs.Lines.{shownLine, stepsLine}
 use Rattle.exhibits.specs.Exhibits.{exhibit}
 
 -- a full room of zeros has place for a schedule
-pub full-room : {commands lengths : List ℕ} → Keeps commands lengths → Fits commands lengths (replicate 512 0)
+pub full-room : {commands lengths : List ℕ} → Keeps commands lengths → Keeps commands lengths × (rows commands ≤ length (replicate {A = ℕ} 512 0))
 unfolding mostRows
-full-room K = record { keeps = K; fits = omega (arith, K .few-rows, length-replicate {A = ℕ} 512 0) }
+full-room K = (K, omega (arith, K .few-rows, length-replicate {A = ℕ} 512 0))
 
 -- where there is place, it is written
-pub fills : {σ commands lengths room after : List ℕ} {w : Written} → Fits commands lengths room → WritesBy σ commands lengths room after w → FilledBy σ room after (w .length)
-unfolding unwritten
+pub fills : {σ commands lengths room after : List ℕ} {w : Written} → Keeps commands lengths × (rows commands ≤ length room) → WritesBy σ commands lengths room after w → FilledBy σ room after (w .length)
 fills {commands = commands} {lengths = lengths} {room = room} F W =
-    W .wrote
-    (ap (λ (t : Told). t .number) (W .verdict) ∙ rw (kept commands lengths (F .keeps), le-ltb (length room) (rows commands) (F .fits)))
+    W .wrote (ap (λ (t : Told). t .number) (W .verdict) ∙ keeps-written commands lengths (length room) (F .0) (F .1))
 
 -- the front of the room is the schedule
 module _ {σ room after : List ℕ} {n : ℕ} (B : FilledBy σ room after n) where

@@ -12,17 +12,18 @@ use borrow.Author.Tests.{ne-eqb, ltb-true}
 use Rattle.tables.specs.Limits.{mostRows, mostThreads}
 use Rattle.tables.specs.Lowest.{lowest}
 use Rattle.tables.specs.Rows.{rows}
-use Rattle.tables.specs.Rules.{Keeps}
+use Rattle.rules.specs.Rules.{Keeps}
 use Rattle.verdicts.specs.declared.Told.{Told}
-use Rattle.relation.proofs.Truth.{split}
+use Rattle.relation.proofs.Truth.{clashing, split}
 use Rattle.sheet.specs.declared.Pair.{Pair}
 use Rattle.sheet.specs.declared.Sheet.{Sheet}
 use Rattle.sheet.specs.Sheet.{pair, mostKept, keptPairs, firstKept}
 use Rattle.printing.specs.Figures.{figures}
 use Rattle.printing.proofs.Numerals.{figures-long}
-use Rattle.replay.specs.Ending.{judged}
-use Rattle.replay.specs.Replay.{played, generation}
-use Rattle.replay.specs.Writer.{apartFrom, pickedFirst, apartSchedule}
+use Rattle.steps.specs.Ending.{judged}
+use Rattle.steps.specs.Going.{played, generation}
+use Rattle.replay.specs.Writer.{apartFrom, apartSchedule}
+use Rattle.steps.specs.Writing.{pickedFirst}
 use Rattle.replay.specs.Schedules.{Complete}
 use Rattle.replay.proofs.Judged.{clean-verdict}
 use Rattle.replay.proofs.Places.{judged-placed, generation-placed, complete-told, schedule-by-few, schedule-by-low}
@@ -34,6 +35,7 @@ use Rattle.wording.specs.Lines.{commandWord, firstWord, getsWord, notWord, clas
 use Rattle.exhibits.specs.Exhibits.{reuseExhibit, orderExhibit, raceExhibits, exhibits}
 use Rattle.exhibits.proofs.Doors.{exhibits-ten, exhibits-eleven, exhibits-none}
 use Rattle.exhibits.proofs.Alike.{BothCommands, Named}
+use Rattle.exhibits.proofs.True.{else-clean}
 
 -- ---- a line in words has at most 64 bytes
 
@@ -153,7 +155,7 @@ module _ {commands lengths : List ℕ} (K : Keeps commands lengths) where
         as-short t (otherGeneration (generation r) g (rows commands)) (judged-placed K τ .place)
         (λ a b d.
         other-short (generation r)
-        (generation-placed K τ (clean-verdict lengths r (⊎-elim (λ z. z) (λ w. absurd (omega (arith, w .0, w .1, a, b, d))) (complete-told τ C)))))
+        (generation-placed K τ (clean-verdict lengths r (⊎-elim (λ z. z) (λ w. clashing w (else-clean (t .number) a b d)) (complete-told τ C)))))
 
     reuse-short : (ρ : ℕ → ℕ → Bool) (p : Pair) → length (reuseExhibit commands lengths ρ g p) ≤ 1600
     unfolding reuseExhibit

@@ -6,10 +6,8 @@ use mathlib.Core.List.{List}
 use Prim.Native.Nat.{ℕ, _≤_, _<_}
 use borrow.Author.Tests.{eq-eqb, ne-eqb, lt-ltb, le-ltb}
 use Rattle.tables.specs.Rows.{rows}
-use Rattle.tables.specs.Rules.{Keeps}
 use Rattle.verdicts.specs.Verdicts.{numbered}
 use Rattle.verdicts.specs.declared.Told.{Told}
-use Rattle.tables.proofs.Rules.{kept}
 use Rattle.rooms.specs.Rooms.{numberAt}
 use Rattle.replay.specs.declared.offered.Judged.{Judged}
 use Rattle.replay.specs.Doors.{Replays}
@@ -18,12 +16,11 @@ use Rattle.wording.specs.declared.Shown.the-variants.{Generation, Mismatch, Dea
 use Rattle.exhibits.specs.declared.shown.End.{End}
 use Rattle.exhibits.specs.Shown.{differs, generationOf, otherGeneration, shownBy, Ended}
 
--- ---- the judge's answer for tables that pass
+-- ---- the judge's answer
 
-pub ended : {commands lengths σ : List ℕ} {r : Judged} {t : Told} → Keeps commands lengths → Replays commands lengths σ r → t ≡ numbered (r .verdict)
+pub ended : {commands lengths σ : List ℕ} {r : Judged} {t : Told} → Replays commands lengths σ r → t ≡ numbered (r .verdict)
     → Ended commands lengths σ (record { told = t; generations = r .generations })
-ended {commands} {lengths} K R e =
-    record { told = e ∙ R .verdict ∙ rw (kept commands lengths K); generations = R .generations ∙ rw (kept commands lengths K) }
+ended R e = record { told = e ∙ R .verdict; generations = R .generations }
 
 -- ---- the search for another generation
 

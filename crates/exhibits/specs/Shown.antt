@@ -8,10 +8,10 @@ use lib.Dec.{eqb, ltb}
 use lib.ListN.{length}
 use Rattle.tables.specs.Lowest.{lowest}
 use Rattle.tables.specs.Rows.{rows}
-use Rattle.tables.specs.Rules.{Keeps}
+use Rattle.rules.specs.Rules.{Keeps}
 use Rattle.verdicts.specs.declared.Told.{Told}
-use Rattle.replay.specs.Ending.{judged}
-use Rattle.replay.specs.Replay.{played, generation}
+use Rattle.steps.specs.Ending.{judged}
+use Rattle.steps.specs.Going.{played, generation}
 use Rattle.replay.specs.Schedules.{Precedes}
 use Rattle.wording.specs.declared.Shown.{Shown}
 use Rattle.wording.specs.declared.Shown.the-variants.{First, Generation, Mismatch, Deadlock, LeftSet}

@@ -1,10 +1,13 @@
 // Schedules that are evidence, each below a line that says what it shows.
+ghost use Prim.Native.Nat.{_≤_};
+ghost use lib.ListN.{length};
 ghost use Rattle.tables.specs.Rows.{rows};
-ghost use Rattle.tables.specs.Rules.{Keeps};
+ghost use Rattle.rules.specs.Rules.{Keeps};
 ghost use Rattle.relation.specs.Table.{related};
 ghost use Rattle.sheet.specs.Sheet.{pair, keptPairs};
 ghost use Rattle.rooms.specs.Rooms.{numberAt, Roomy};
-ghost use Rattle.replay.specs.Writer.{apartSchedule, FilledBy, Fits};
+ghost use Rattle.replay.specs.Writer.{apartSchedule};
+ghost use Rattle.steps.specs.Writing.{FilledBy};
 ghost use Rattle.printing.specs.Putting.{PutsBytes};
 ghost use Rattle.exhibits.specs.Exhibits.{reuseExhibit, orderExhibit, raceExhibits, exhibited};
 use crate::shown::shown_by;
@@ -26,8 +29,9 @@ fn fill_apart(
     d: usize,
     room: &mut [u32],
 ) -> usize
-    requires { ⌜ Fits (now commands) (now lengths) (now room) ⌝ }
-    ensures { λ r. ⌜ FilledBy (apartSchedule (now (commands .entry)) (now (lengths .entry)) (related (now (relation .entry)) (rows (now (commands .entry)))) c d)
+    requires { ⌜ Keeps (now commands) (now lengths) × (rows (now commands) ≤ length (now room)) ⌝ }
+    ensures { λ r. ⌜ FilledBy
+        (apartSchedule (now (commands .entry)) (now (lengths .entry)) (related (now (relation .entry)) (rows (now (commands .entry)))) c d)
         (now (room .entry)) (now (room .exit)) r ⌝ }
 {
     let written = write_apart(commands, lengths, relation, c, d, room);

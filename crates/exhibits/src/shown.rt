@@ -3,7 +3,6 @@ ghost use mathlib.Core.Path.{_≡_};
 ghost use Prim.Native.Nat.{_≤_};
 ghost use lib.ListN.{length};
 ghost use Rattle.tables.specs.Limits.{mostRows};
-ghost use Rattle.tables.specs.Rules.{Keeps};
 ghost use Rattle.rooms.specs.Rooms.{numberAt};
 ghost use Rattle.exhibits.specs.Shown.{otherGeneration, shownBy, Ended, Offered};
 use replay::judge;
@@ -19,7 +18,6 @@ struct End {
 
 // The judge's verdict by its number: a caller of this is spared the verdict.
 fn end_of(commands: &[u32], lengths: &[u32], schedule: &[u32]) -> End
-    requires { ⌜ Keeps (now commands) (now lengths) ⌝ }
     ensures { λ r. ⌜ Ended (now (commands .entry)) (now (lengths .entry)) (now (schedule .entry)) r ⌝ }
 {
     let judged = judge(commands, lengths, schedule);

@@ -9,12 +9,12 @@ use native.Mathlib.Decide.{decLt, ℕ-discrete}
 use lib.Dec.{eqb, ltb}
 use borrow.Author.Tests.{eq-eqb, lt-leb, ltb-true, eqb-true}
 use Rattle.tables.specs.Rows.{rows, kind, name, write, arrive, threadOf}
-use Rattle.tables.specs.Rules.{Keeps}
+use Rattle.rules.specs.Rules.{Keeps}
 use Rattle.relation.proofs.Truth.{split, clashing, both, pair, either, left, right}
 use Rattle.schedules.specs.Order.{Reaches, reach}
 use Rattle.schedules.proofs.Theorems.{decides}
 use Rattle.faults.specs.declared.faults.Fault.the-variants as fault
-use Rattle.replay.specs.Step.{registers}
+use Rattle.steps.specs.Step.{registers}
 use Rattle.replay.specs.Program.{program}
 use Rattle.faults.specs.Faults.{conflict, faults}
 use Rattle.replay.proofs.Agreements.{reaches-on}

@@ -10,7 +10,6 @@ use native.Mathlib.Omega.{arith}
 use lib.ListN.{length, getD, length-append}
 use borrow.Author.Tests.{eqb-true, eqb-false, eq-eqb, ne-eqb, ltb-true, lt-ltb, not-true}
 use Rattle.tables.specs.Rows.{rows, threadOf, isFirst}
-use Rattle.tables.specs.Rules.{Keeps}
 use Rattle.tables.proofs.Rows.{past-first}
 use Rattle.relation.proofs.Truth.{clashing, split, isnt, both, pair, either, left, right}
 use Rattle.schedules.specs.Machine.{Program}
@@ -194,36 +193,35 @@ module _ (commands lengths : List ℕ) (g : ℕ → ℕ) where
     λ s. pair _ _ (s .reg₁) (pair _ _ (s .reg₂) (pair _ _ (eq-eqb _ _ (s .at)) (eq-eqb _ _ (add-one (g c₁) ∙ sym (s .gen))))),
   )
 
-  module _ (K : Keeps commands lengths) where
-    pub reuse-is : (c₁ c₂ : ℕ) → c₁ < rows commands → c₂ < rows commands → (reuse commands lengths g (reach P g) c₁ c₂ ≡ true) ↔ Reuse P g c₁ c₂
-    unfolding reuse
-    reuse-is c₁ c₂ l₁ l₂ =
-        let d = decides P g c₁ (c₂ - 1) l₁ (omega arith) in (
-          λ e.
-              let (s, t) = both _ _ e in
-              record {
-                succeeds = succeeds-is c₁ c₂ l₁ l₂ .0 s;
-                loose = λ w.
-                    let q : w .before ≡ c₂ - 1 = omega (arith, w .is-before) in
-                    ⊎-elim (λ f. clashing f (w .not-first)) (λ n. clashing (d .1 (subst (Reaches P g c₁) q (w .reached))) (not-true _ n))
-                    (either (isFirst lengths c₂) _ t);
-              },
-          λ r.
-              pair _ _ (succeeds-is c₁ c₂ l₁ l₂ .1 (r .succeeds))
-              (⊎-elim (λ (f : isFirst lengths c₂ ≡ true). left _ _ f)
-              (λ (f : isFirst lengths c₂ ≡ false).
-              right (isFirst lengths c₂) _
-              (ap not
-              (isnt (reach P g c₁ (c₂ - 1))
-              (λ t. r .loose
-              (record {
-                before = c₂ - 1;
-                is-before = omega (arith, past-first lengths c₂ (omega (arith, K .adds-up)) f);
-                not-first = f;
-                reached = d .0 t;
-              })))))
-              (split (isFirst lengths c₂))),
-        )
+  pub reuse-is : (c₁ c₂ : ℕ) → c₁ < rows commands → c₂ < rows commands → (reuse commands lengths g (reach P g) c₁ c₂ ≡ true) ↔ Reuse P g c₁ c₂
+  unfolding reuse
+  reuse-is c₁ c₂ l₁ l₂ =
+      let d = decides P g c₁ (c₂ - 1) l₁ (omega arith) in (
+        λ e.
+            let (s, t) = both _ _ e in
+            record {
+              succeeds = succeeds-is c₁ c₂ l₁ l₂ .0 s;
+              loose = λ w.
+                  let q : w .before ≡ c₂ - 1 = omega (arith, w .is-before) in
+                  ⊎-elim (λ f. clashing f (w .not-first)) (λ n. clashing (d .1 (subst (Reaches P g c₁) q (w .reached))) (not-true _ n))
+                  (either (isFirst lengths c₂) _ t);
+            },
+        λ r.
+            pair _ _ (succeeds-is c₁ c₂ l₁ l₂ .1 (r .succeeds))
+            (⊎-elim (λ (f : isFirst lengths c₂ ≡ true). left _ _ f)
+            (λ (f : isFirst lengths c₂ ≡ false).
+            right (isFirst lengths c₂) _
+            (ap not
+            (isnt (reach P g c₁ (c₂ - 1))
+            (λ t. r .loose
+            (record {
+              before = c₂ - 1;
+              is-before = omega (arith, past-first lengths c₂ f);
+              not-first = f;
+              reached = d .0 t;
+            })))))
+            (split (isFirst lengths c₂))),
+      )
 
   pub race-is : (x y : ℕ) → x < rows commands → y < rows commands → (race commands lengths (reach P g) x y ≡ true)
       ↔ ((x < y) × (conflict commands x y ≡ true) × (threadOf lengths x ≢ threadOf lengths y) × (¬ Reaches P g x y) × (¬ Reaches P g y x))

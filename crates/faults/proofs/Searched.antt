@@ -9,7 +9,7 @@ use native.Mathlib.Omega.{arith}
 use lib.ListN.{length, length-append}
 use Rattle.tables.specs.Limits.{mostRows}
 use Rattle.tables.specs.Rows.{rows}
-use Rattle.tables.specs.Rules.{Keeps}
+use Rattle.rules.specs.Rules.{Keeps}
 use Rattle.sheet.specs.declared.Pair.{Pair}
 use Rattle.faults.specs.declared.faults.Fault.{Fault}
 use Rattle.faults.specs.Faults.{pairOf, faulty, alongRow, allRows, faults}

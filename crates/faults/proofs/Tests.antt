@@ -1,4 +1,4 @@
--- What is found, and by the heads of tables that pass: the tests find exactly the faults. Assumes nothing.
+-- What is found, and that by the heads of their rows the tests find exactly the faults. Assumes nothing.
 use mathlib.Core.Path.{_≡_, sym, _∙_}
 use mathlib.Core.Logic.{by-cases, _≢_}
 use mathlib.Core.Bool.{true}
@@ -8,10 +8,9 @@ use native.Mathlib.Decide.{ℕ-discrete}
 use native.Mathlib.Omega.{arith}
 use lib.Dec.{eqb, leb, ltb}
 use borrow.Author.Tests.{ltb-true, eqb-true, le-leb, lt-leb, eq-eqb, ne-eqb}
-use Rattle.tables.specs.Rows.{rows, arrive, total}
-use Rattle.tables.specs.Rules.{Keeps}
+use Rattle.tables.specs.Rows.{rows, arrive}
 use Rattle.tables.specs.Heads.{Headed}
-use Rattle.tables.proofs.Rows.{home}
+use Rattle.tables.proofs.Rows.{head-low}
 use Rattle.tables.proofs.Filling.{first-by-head, same-by-head}
 use Rattle.relation.specs.Table.{related}
 use Rattle.relation.proofs.Truth.{both}
@@ -46,7 +45,7 @@ module _ (relation : List ℕ) (m : ℕ) (a b : Seen) where
       let (n, _) = both (eqb (a .name) (b .name)) _ k₂ in
       (ltb-true _ _ l, x, y, eqb-true _ _ n)
 
--- ---- by the heads of tables that pass
+-- ---- by the heads of the rows
 
 -- a number that is no less than a bound is at most the bound exactly when it is the bound
 at-most : (a b : ℕ) → b ≤ a → leb a b ≡ eqb a b
@@ -54,13 +53,12 @@ at-most a b l =
     by-cases (ℕ-discrete a b) (λ (e : a ≡ b). le-leb a b (omega arith) ∙ sym (eq-eqb a b e))
     (λ (n : a ≢ b). lt-leb a b (omega arith) ∙ sym (ne-eqb a b n))
 
-pub is-faulty : {commands lengths heads : List ℕ} → Keeps commands lengths → Headed lengths heads → (generations relation : List ℕ)
+pub is-faulty : (commands : List ℕ) {lengths heads : List ℕ} → Headed lengths heads (rows commands) → (generations relation : List ℕ)
     → (f : Fault) (i j : ℕ) → i < rows commands → j < rows commands
     → isFault relation (rows commands) f (seenAt heads commands generations i) (seenAt heads commands generations j)
     ≡ faulty commands lengths (numberAt generations) (related relation (rows commands)) f i j
 unfolding succeeds reuse conflict race succeedsBy reuseBy conflictBy raceBy
-is-faulty {commands} {lengths} {heads} K H generations relation Reuse i j li lj =
-    let l : i < total lengths = omega (arith, K .adds-up) in
-    let e = H .head i l in
-    rw (at-most i (numberAt heads i) (omega (arith, home lengths i l .low)), first-by-head H i l)
-is-faulty K H generations relation Race i j li lj = rw (same-by-head H i j (omega (arith, K .adds-up)) (omega (arith, K .adds-up)))
+is-faulty commands {lengths} {heads} H generations relation Reuse i j li lj =
+    let e = H .head i li in
+    rw (at-most i (numberAt heads i) (omega (arith, head-low lengths i)), first-by-head H i li)
+is-faulty commands H generations relation Race i j li lj = rw (same-by-head H i j li lj)

@@ -7,7 +7,7 @@ use Rattle.tables.specs.Rows.{rows, kind, name, write, arrive, threadOf, isFirs
 use Rattle.sheet.specs.declared.Pair.{Pair}
 use Rattle.faults.specs.declared.faults.Fault.{Fault}
 use Rattle.faults.specs.declared.faults.Fault.the-variants.{Reuse, Race}
-use Rattle.replay.specs.Step.{registers}
+use Rattle.steps.specs.Step.{registers}
 use Rattle.sheet.specs.Sheet.{pair}
 
 -- Same barrier, c₂ one generation after c₁. Reads and writes belong to no barrier.

@@ -6,7 +6,6 @@ use Prim.Native.Nat.{ℕ}
 use native.Mathlib.Omega.{arith}
 use lib.ListN.{length, getD}
 use Rattle.tables.specs.Rows.{rows}
-use Rattle.tables.specs.Rules.{Keeps}
 use Rattle.tables.specs.Heads.{Headed}
 use Rattle.verdicts.specs.Verdicts.{tell}
 use Rattle.relation.specs.Table.{related}
@@ -58,14 +57,14 @@ looked-race (p ∷ ps) qs F h G = absurd (omega (arith, ap (λ (s : Sheet). s .t
 
 -- ---- by the lengths
 
-found-faults : {commands lengths heads : List ℕ} → Keeps commands lengths → Headed lengths heads → (generations relation : List ℕ) (f : Fault)
+found-faults : (commands : List ℕ) {lengths heads : List ℕ} → Headed lengths heads (rows commands) → (generations relation : List ℕ) (f : Fault)
     → allFound heads commands generations relation f ≡ faults commands lengths (numberAt generations) (related relation (rows commands)) f
 unfolding faultAt
-found-faults {commands} {lengths} {heads} K H generations relation f =
-    all-faults commands lengths (numberAt generations) (related relation (rows commands)) f (faultAt heads commands generations relation f) (is-faulty K H generations relation f)
+found-faults commands {lengths} {heads} H generations relation f =
+    all-faults commands lengths (numberAt generations) (related relation (rows commands)) f (faultAt heads commands generations relation f) (is-faulty commands H generations relation f)
 
-pub looked-over : {commands lengths heads : List ℕ} → Keeps commands lengths → Headed lengths heads → (generations relation : List ℕ) {r : Finding}
+pub looked-over : (commands : List ℕ) {lengths heads : List ℕ} → Headed lengths heads (rows commands) → (generations relation : List ℕ) {r : Finding}
     → LookedBy heads commands generations relation r → LookedOver commands lengths generations relation r
-looked-over K H generations relation L =
-    let same = found-faults K H generations relation in
+looked-over commands H generations relation L =
+    let same = found-faults commands H generations relation in
     record { verdict = rw (← same Reuse, ← same Race) (L .verdict); sheet = rw (← same Reuse, ← same Race) (L .sheet) }

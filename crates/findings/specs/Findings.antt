@@ -9,12 +9,12 @@ use Rattle.tables.specs.Rows.{rows}
 use Rattle.verdicts.specs.Verdicts.{tell, numbered}
 use Rattle.verdicts.specs.declared.Told.{Told}
 use Rattle.relation.specs.Table.{related}
-use Rattle.replay.specs.InOrder.{orElse}
+use Rattle.verdicts.specs.InOrder.{orElse}
 use Rattle.sheet.specs.declared.Pair.{Pair}
 use Rattle.sheet.specs.Sheet.{sheetOf}
 use Rattle.faults.specs.declared.faults.Fault.the-variants.{Reuse, Race}
 use Rattle.findings.specs.declared.finding.Finding.{Finding}
-use Rattle.rooms.specs.Refusals.{refused}
+use Rattle.rooms.specs.Refusals.{refusedSizes}
 use Rattle.rooms.specs.Rooms.{numberAt}
 use Rattle.faults.specs.Faults.{faults}
 
@@ -36,15 +36,15 @@ module _ (commands lengths : List ℕ) (g : ℕ → ℕ) (ρ : ℕ → ℕ → B
   abbrev pub faultPairs : List Pair
   faultPairs = orPairs (faults commands lengths g ρ Reuse) (faults commands lengths g ρ Race)
 
--- The contract of `find_faults`: 1 to 4 with an empty sheet, or 10, 11 or 0 with the faults over the numbers and the table in the rooms.
+-- The contract of `find_faults`, of any numbers in the tables: 1 or 4, by the lengths alone, with an empty sheet; or 10, 11 or 0 with the faults over the numbers and the table in the rooms.
 pub record Finds (commands lengths generations relation : List ℕ) (r : Finding) : Type 0 where
   pub verdict :
       numbered (r .verdict)
-      ≡ orElse (refused commands lengths (length relation) (length generations))
+      ≡ orElse (refusedSizes commands (length relation) (length generations))
       (faultTold commands lengths (numberAt generations) (related relation (rows commands)))
   pub sheet :
       r .sheet
       ≡ sheetOf
-      (cond (eqb (refused commands lengths (length relation) (length generations) .number) 0)
+      (cond (eqb (refusedSizes commands (length relation) (length generations) .number) 0)
       (faultPairs commands lengths (numberAt generations) (related relation (rows commands)))
       [])

@@ -8,7 +8,7 @@ use lib.Dec.{ltb}
 use lib.ListN.{length, getD}
 use Rattle.tables.specs.Limits.{mostRows, barriers}
 use Rattle.tables.specs.Rows.{rows, kind, name, arrive}
-use Rattle.replay.specs.Step.{registers}
+use Rattle.steps.specs.Step.{registers}
 use Rattle.rooms.specs.Rooms.{numberAt}
 use Rattle.faults.specs.declared.faults.Fault.{Fault}
 use Rattle.faults.specs.declared.faults.Fault.the-variants.{Reuse, Race}

@@ -1,19 +1,17 @@
-// What is found: refusals 1 to 4, or the verdict of the search, with the sheet.
+// What is found: refusals 1 and 4, or the verdict of the search, with the sheet.
 ghost use mathlib.Core.Path.{_≡_};
 ghost use mathlib.Core.List.{List, []};
 ghost use Prim.Native.Nat.{_≤_};
 ghost use lib.ListN.{length};
 ghost use Rattle.tables.specs.Limits.{mostRows};
 ghost use Rattle.tables.specs.Rows.{rows};
-ghost use Rattle.tables.specs.Rules.{Keeps};
 ghost use Rattle.sheet.specs.declared.Pair.{Pair};
 ghost use Rattle.sheet.specs.Sheet.{sheetOf};
 ghost use Rattle.findings.specs.Findings.{Finds};
 ghost use Rattle.findings.specs.Searches.{allFound, kindTold, Found, LookedBy, LookedOver};
 use crate::search::search;
 use faults::Fault;
-use rooms::admits;
-use rooms::refuse;
+use rooms::refuse_sizes;
 use sheet::Sheet;
 use tables::Table;
 use tables::put_heads;
@@ -83,9 +81,9 @@ fn look(
     find_kind(Fault::Race, commands, generations, relation, heads)
 }
 
-// The same of tables that pass, by the heads of their rows.
+// The same of the tables, by the heads of their rows.
 fn look_over(commands: &[u32], lengths: &[u32], generations: &[u32], relation: &[u32]) -> Finding
-    requires { ⌜ Keeps (now commands) (now lengths) × (rows (now commands) ≤ length (now generations)) ⌝ }
+    requires { ⌜ (rows (now commands) ≤ mostRows) × (rows (now commands) ≤ length (now generations)) ⌝ }
     ensures { λ r. ⌜ LookedOver (now (commands .entry)) (now (lengths .entry)) (now (generations .entry)) (now (relation .entry)) r ⌝ }
 {
     let mut heads = [0; Table::ROWS];
@@ -93,7 +91,7 @@ fn look_over(commands: &[u32], lengths: &[u32], generations: &[u32], relation: &
     look(commands, generations, relation, &heads)
 }
 
-// Any tables, any numbers offered as generations, any table of what reaches what. The rooms are only read.
+// Any numbers as tables, as generations, as a table of what reaches what. Only lengths are refused, and the rooms are only read.
 pub fn find_faults(
     commands: &[u32],
     lengths: &[u32],
@@ -102,8 +100,9 @@ pub fn find_faults(
 ) -> Finding
     ensures { λ r. ⌜ Finds (now (commands .entry)) (now (lengths .entry)) (now (generations .entry)) (now (relation .entry)) r ⌝ }
 {
-    if !admits(commands, lengths, relation.len(), generations.len()) {
-        return bare(refuse(commands, lengths, relation.len(), generations.len()));
+    let refusal = refuse_sizes(commands, relation.len(), generations.len());
+    if refusal.number().number != 0 {
+        return bare(refusal);
     }
     look_over(commands, lengths, generations, relation)
 }

@@ -12,10 +12,9 @@ use lib.Count.{leadingZeros, leading-top}
 use lib.Dec.{eqb}
 use lib.Pow.{pow-pos, pow-mono}
 use Rattle.relation.specs.Bits.{bitOf}
-use Rattle.relation.proofs.Words.{one-shl}
+use Rattle.relation.proofs.Words.{one-shl, zero-bit}
 use Rattle.lanes.specs.Words.{except, wokenBy, highestOf, allOf}
 use Rattle.lanes.specs.declared.Lanes.{Lanes}
-use Rattle.lanes.proofs.Bits.{zero-bit}
 
 module _ (L : Lanes) (k m : ℕ) where
   abbrev Wakes : (a b r : ℕ) → Type 0

@@ -8,47 +8,13 @@ use native.Mathlib.Decide.{ℕ-discrete, decLt}
 use native.Mathlib.Omega.{arith}
 use borrow.Author.Tests.{eq-eqb, lt-ltb, le-ltb}
 use lib.Arith.{digits-mod}
-use lib.Bits.{bitAnd, bitXor, differ, and-step, xor-step, and-shr, xor-shr}
 use lib.Dec.{eqb, ltb, lit<}
 use lib.Pow.{pow-pos, shr-shr}
 use Rattle.relation.specs.Bits.{bitOf}
 use Rattle.relation.proofs.Truth.{clashing, split}
-use Rattle.relation.proofs.Words.{same-word}
+use Rattle.relation.proofs.Words.{except-bit, zero-bit, same-word}
 use Rattle.warps.proofs.Proceed.{any, any-none, none-any}
 use Rattle.lanes.specs.Words.{except, highestOf, allOf}
-
-differ-small : (x y : ℕ) → x < 2 → y < 2 → differ x y < 2
-differ-small zero y h l = l
-differ-small (suc zero) zero h l = omega arith
-differ-small (suc zero) (suc zero) h l = omega arith
-differ-small (suc zero) (suc (suc y)) h l = absurd (omega arith)
-differ-small (suc (suc x)) y h l = absurd (omega arith)
-
-xor-low : (a b : ℕ) → bitXor a b % 2 ≡ differ (a % 2) (b % 2)
-xor-low a b = rw (xor-step a b) (digits-mod (bitXor (a / 2) (b / 2)) (differ-small (a % 2) (b % 2) (mod-lt _ (lit< tt)) (mod-lt _ (lit< tt))))
-
-and-low : (a b : ℕ) → bitAnd a b % 2 ≡ min (a % 2) (b % 2)
-and-low a b = let m : min (a % 2) (b % 2) < 2 = omega arith in rw and-step (digits-mod (bitAnd (a / 2) (b / 2)) m)
-
-digit-except : (x y : ℕ) → x < 2 → y < 2 → eqb (differ x (min x y)) 1 ≡ eqb x 1 && not (eqb y 1)
-digit-except zero zero h l = refl
-digit-except zero (suc zero) h l = refl
-digit-except zero (suc (suc y)) h l = absurd (omega arith)
-digit-except (suc zero) zero h l = refl
-digit-except (suc zero) (suc zero) h l = refl
-digit-except (suc zero) (suc (suc y)) h l = absurd (omega arith)
-digit-except (suc (suc x)) y h l = absurd (omega arith)
-
-pub except-bit : (a b t : ℕ) → bitOf (except a b) t ≡ bitOf a t && not (bitOf b t)
-unfolding bitOf
-except-bit a b t =
-    ap (λ (z : ℕ). eqb (z % 2) 1) (xor-shr a (bitAnd a b) t)
-    ∙ ap (λ (z : ℕ). eqb z 1) (xor-low (a / 2 ^ t) (bitAnd a b / 2 ^ t) ∙ ap (λ (z : ℕ). differ (a / 2 ^ t % 2) (z % 2)) (and-shr a b t) ∙ ap (differ (a / 2 ^ t % 2)) (and-low (a / 2 ^ t) (b / 2 ^ t)))
-    ∙ digit-except (a / 2 ^ t % 2) (b / 2 ^ t % 2) (mod-lt _ (lit< tt)) (mod-lt _ (lit< tt))
-
-pub zero-bit : (t : ℕ) → bitOf 0 t ≡ false
-unfolding bitOf
-zero-bit t = let l : 0 < 2 ^ t = pow-pos t in rw (div-eq-of-lt l)
 
 -- no lane from n on
 abbrev pub Below : (n word : ℕ) → Type 0

@@ -9,11 +9,10 @@ use borrow.Author.Tests.{eq-eqb, ne-eqb, lt-ltb, le-ltb}
 use lib.Dec.{eqb, ltb}
 use Rattle.relation.specs.Bits.{bitOf}
 use Rattle.relation.proofs.Truth.{clashing, split, both}
-use Rattle.relation.proofs.Words.{or-bit}
+use Rattle.relation.proofs.Words.{or-bit, except-bit, zero-bit}
 use Rattle.warps.specs.Warp.{TokenType, div, sync, brk, call, DisableState, on, broke, returned, awaits, isOn, enabled, woken, disable}
 use Rattle.lanes.specs.Words.{stateBy, stateOf, tokenType, except, wokenBy, brokenBy, returnedBy, onlyActive}
 use Rattle.lanes.specs.declared.Lanes.{Lanes}
-use Rattle.lanes.proofs.Bits.{except-bit, zero-bit}
 
 -- no lane has both broken off and returned; an active one has done neither
 pub record Apart (L : Lanes) : Type 0 where

@@ -7,8 +7,8 @@ use native.Mathlib.Omega.{arith}
 use lib.ListN.{length, length-append, length-map}
 use Rattle.tables.specs.Limits.{mostRows, mostThreads}
 use Rattle.tables.specs.Rows.{rows, total}
-use Rattle.tables.specs.Rules.{checked}
-use Rattle.tables.proofs.Rules.{refuses-rows}
+use Rattle.rules.specs.Rules.{checked}
+use Rattle.rules.proofs.Rules.{good-commands, refuses-rows}
 use Rattle.spelling.specs.Machine.{flat}
 use Rattle.grammar.specs.Grammar as G
 use Rattle.grammar.specs.Grammar.{Listing, rowOf, allCommands, threads, listingRows, listingLengths}
@@ -41,4 +41,4 @@ module _ (x : Listing) where
       let few : rows commands ≤ mostRows = omega (arith, listing-rows) in
       let most : length lengths ≤ mostThreads = omega (arith, length-map (threads x) (λ (t : List G.Command). length t)) in
       let sum : total lengths ≡ rows commands = omega (arith, adds-up (threads x), listing-rows) in
-      refuses-rows commands lengths whole few (omega arith) most sum
+      refuses-rows commands lengths (good-commands commands whole few) (omega arith) most sum

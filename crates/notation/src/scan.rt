@@ -68,7 +68,8 @@ fn put_row(commands: &mut [u32], at: usize, kind: u32, name: u32, count: u32)
 // The pass that writes the tables of a text that was judged, into rooms that hold them.
 pub(crate) fn write(text: &[u8], commands: &mut [u32], lengths: &mut [u32])
     requires { ⌜ Rooms (now text) (now commands) (now lengths) ⌝ }
-    ensures { λ _. ⌜ (now (commands .exit) ≡ over (rowNumbers (now (text .entry))) (now (commands .entry))) × (now (lengths .exit) ≡ over (threadLengths (now (text .entry))) (now (lengths .entry))) ⌝ }
+    ensures { λ _. ⌜ (now (commands .exit) ≡ over (rowNumbers (now (text .entry))) (now (commands .entry)))
+        × (now (lengths .exit) ≡ over (threadLengths (now (text .entry))) (now (lengths .entry))) ⌝ }
 {
     let mut at = 0;
     let mut state = State::Word;

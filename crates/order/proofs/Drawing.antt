@@ -7,23 +7,22 @@ use Prim.Native.Nat.{ℕ, _+_, _*_, _≤_, _<_}
 use native.Mathlib.Decide.{ℕ-discrete}
 use native.Mathlib.Numerals.{add-one}
 use native.Mathlib.Omega.{arith}
-use lib.Dec.{eqb, ltb}
+use lib.Dec.{ltb}
 use lib.ListN.{length, getD, set, take, length-set}
 use lib.Seq.{getD-set-same, getD-set-other, getD-take, length-take-le}
 use borrow.Author.Tests.{not-true, ltb-true, lt-ltb}
 use Rattle.tables.specs.Rows.{rows, isFirst}
-use Rattle.tables.specs.Rules.{Keeps}
-use Rattle.tables.specs.Heads.{Headed}
+use Rattle.tables.specs.Heads.{ownHead, Headed}
 use Rattle.tables.proofs.Filling.{first-by-head}
 use Rattle.relation.specs.Chains.{Reach, here, goes}
-use Rattle.relation.specs.Table.{Writes}
+use Rattle.relation.specs.Table.{words, Writes}
 use Rattle.relation.proofs.Truth.{both, pair, clashing}
 use Rattle.relation.proofs.Chains.{reach-join, reach-map, reach-flat}
 use Rattle.relation.proofs.Rooms.{wrote, holds-map}
 use Rattle.schedules.specs.Order.{Edge, along, meets}
 use Rattle.schedules.proofs.Table.{edge-low}
 use Rattle.replay.specs.Program.{program}
-use Rattle.rooms.specs.Rooms.{numberAt, Roomy}
+use Rattle.rooms.specs.Rooms.{numberAt}
 use Rattle.sweeps.specs.Pairs.{pairCount, PairBetween, PairIn}
 use Rattle.order.specs.Order.{Reached}
 use Rattle.order.specs.Leaders.{meetsRow, leader, Seated}
@@ -145,7 +144,7 @@ module _ (commands generations heads leaders : List ℕ) where
 
 -- ---- what is listed, and happens-before
 
-module _ (commands lengths generations heads leaders : List ℕ) (K : Keeps commands lengths) (H : Headed lengths heads)
+module _ (commands lengths generations heads leaders : List ℕ) (H : Headed lengths heads (rows commands))
     (S : Seated commands generations leaders (rows commands)) where
   abbrev m : ℕ
   m = rows commands
@@ -156,8 +155,8 @@ module _ (commands lengths generations heads leaders : List ℕ) (K : Keeps comm
   abbrev Drawn : ℕ → ℕ → Type 0
   Drawn = DrawsBelow commands generations heads leaders m
 
-  begins : (j : ℕ) → j < m → eqb j (getD heads j 0) ≡ isFirst lengths j
-  begins j l = first-by-head H j (omega (arith, K .adds-up))
+  begins : (j : ℕ) → j < m → ownHead heads j ≡ isFirst lengths j
+  begins j l = first-by-head H j l
 
   meets-edge : (i k : ℕ) → meetsRow commands generations i k ≡ true → Edges i k
   meets-edge i k e = let M = meets-parts commands generations i k e in meets (M .from) (M .to) (M .register) (M .sync) (M .barrier) (M .generation)
@@ -226,22 +225,22 @@ module _ (room : List ℕ) (n : ℕ) (fits : n * 2 ≤ length room) where
 
 -- ---- all together
 
-pub listed-reached : {commands lengths generations heads leaders empty pairs b s : List ℕ} {n : ℕ} {said : Bool} → Roomy commands lengths generations b
-    → Headed lengths heads → Seated commands generations leaders (rows commands) → n * 2 ≤ length pairs
+pub listed-reached : {commands lengths generations heads leaders empty pairs b s : List ℕ} {n : ℕ} {said : Bool} → words (rows commands) ≤ length b
+    → Headed lengths heads (rows commands) → Seated commands generations leaders (rows commands) → n * 2 ≤ length pairs
     → Adds (3 * rows commands) (DrawsBelow commands generations heads leaders (rows commands)) empty pairs 0 n
     → Writes (Reach (PairIn (take (n * 2) pairs) (rows commands))) b s (rows commands) said → Reached commands lengths (numberAt generations) b s
-listed-reached {commands} {lengths} {generations} {heads} {leaders} {empty} {pairs} {b} {s} {n} R H S fits A W =
+listed-reached {commands} {lengths} {generations} {heads} {leaders} {empty} {pairs} {b} {s} {n} room H S fits A W =
     holds-map b s (rows commands) (Reach (PairIn (take (n * 2) pairs) (rows commands))) (Reach (Edge (program commands lengths) (numberAt generations)))
     (λ i j li lj. (
-      λ p. reach-map (λ x y P. drawn-edge commands lengths generations heads leaders (R .keeps) H S x y (is-drawn x y (handed-pair pairs n fits (rows commands) x y P))) p,
-      λ p. reach-flat (λ x y e. reach-map is-handed (edge-drawn commands lengths generations heads leaders (R .keeps) H S x y e)) p,
+      λ p. reach-map (λ x y P. drawn-edge commands lengths generations heads leaders H S x y (is-drawn x y (handed-pair pairs n fits (rows commands) x y P))) p,
+      λ p. reach-flat (λ x y e. reach-map is-handed (edge-drawn commands lengths generations heads leaders H S x y e)) p,
     ))
-    (wrote (R .relation-fits) W)
+    (wrote room W)
   where
     is-drawn : (x y : ℕ) → PairBetween pairs 0 n x y → DrawsBelow commands generations heads leaders (rows commands) x y
     is-drawn x y P = ⊎-elim (λ Q. absurd (omega (arith, Q .high))) (λ D. D) (A .only x y P)
 
     is-handed : (x y : ℕ) → DrawsBelow commands generations heads leaders (rows commands) x y → PairIn (take (n * 2) pairs) (rows commands) x y
     is-handed x y D =
-        let (lx, ly) = edge-low (drawn-edge commands lengths generations heads leaders (R .keeps) H S x y D) in
+        let (lx, ly) = edge-low (drawn-edge commands lengths generations heads leaders H S x y D) in
         pair-handed pairs n fits (rows commands) x y lx ly (A .new x y D)

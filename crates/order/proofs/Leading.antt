@@ -11,7 +11,7 @@ use lib.Seq.{getD-set-same, getD-set-other}
 use borrow.Author.Tests.{eqb-true, eq-eqb, lt-ltb, le-ltb, ltb-true, le-leb}
 use Rattle.tables.specs.Rows.{rows, kind, name, arrive, sync}
 use Rattle.relation.proofs.Truth.{split, clashing, same-test, both, pair}
-use Rattle.replay.specs.Step.{registers, syncs}
+use Rattle.steps.specs.Step.{registers, syncs}
 use Rattle.rooms.specs.Rooms.{numberAt}
 use Rattle.order.specs.Order.{meets}
 use Rattle.order.specs.Leaders.{meetsRow, lastBelow, orLast, seat, sits, Seated, leader}

@@ -8,14 +8,14 @@ use Rattle.verdicts.specs.Verdicts.{numbered}
 use Rattle.verdicts.specs.declared.Verdict.{Verdict}
 use Rattle.relation.specs.Bits.{Words}
 use Rattle.relation.proofs.Rooms.{holds-one}
-use Rattle.rooms.proofs.Unique.{refuse-one}
+use Rattle.rooms.proofs.Unique.{refuse-sizes-one}
 use Rattle.order.specs.Orders.{Orders}
 
 -- words of 32 bits stand in the rooms
 pub put-order-one : (commands lengths generations relation : List ℕ) (a b : Verdict) {ra rb : List ℕ} → Words ra → Words rb
     → Orders commands lengths generations relation a ra → Orders commands lengths generations relation b rb → (a ≡ b) × (ra ≡ rb)
 put-order-one commands lengths generations relation a b wa wb A B =
-    let e = refuse-one _ _ _ _ a b (A .verdict) (B .verdict) in
+    let e = refuse-sizes-one _ _ _ a b (A .verdict) (B .verdict) in
     let n = ap (λ (v : Verdict). numbered v .number) (sym e) in (
       e,
       by-cases (ℕ-discrete (numbered a .number) 0) (λ (z : numbered a .number ≡ 0). holds-one _ _ _ _ _ wa wb (A .holds z) (B .holds (n ∙ z)))

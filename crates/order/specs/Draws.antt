@@ -4,15 +4,16 @@ use mathlib.Core.Bool.{Bool, true, not, _&&_}
 use mathlib.Core.List.{List}
 use mathlib.Core.Logic.{_⊎_}
 use Prim.Native.Nat.{ℕ, _+_, _≤_, _<_}
-use lib.Dec.{eqb, ltb}
-use lib.ListN.{length, getD}
+use lib.Dec.{ltb}
+use lib.ListN.{length}
 use Rattle.tables.specs.Rows.{rows}
+use Rattle.tables.specs.Heads.{ownHead}
 use Rattle.sweeps.specs.Pairs.{PairBetween}
 use Rattle.order.specs.Leaders.{meetsRow, leader}
 
 -- the row after c is there, and is not where its thread begins
 abbrev pub follows : List ℕ → ℕ → ℕ → Bool
-follows heads m c = ltb (c + 1) m && not (eqb (c + 1) (getD heads (c + 1) 0))
+follows heads m c = ltb (c + 1) m && not (ownHead heads (c + 1))
 
 -- what is listed for command c: its thread's next command, and its leader, both ways as far as they are edges
 pub data Draws (commands generations heads leaders : List ℕ) (c : ℕ) : ℕ → ℕ → Type 0 where

@@ -7,7 +7,7 @@ use lib.Dec.{ltb}
 use lib.ListN.{getD}
 use Rattle.tables.specs.Limits.{mostRows, barriers}
 use Rattle.tables.specs.Rows.{rows, name}
-use Rattle.replay.specs.Step.{syncs}
+use Rattle.steps.specs.Step.{syncs}
 use Rattle.rooms.specs.Rooms.{numberAt}
 use Rattle.order.specs.Order.{meets}
 

@@ -7,7 +7,7 @@ use Rattle.tables.specs.Rows.{rows, name}
 use Rattle.relation.specs.Table.{Holds}
 use Rattle.schedules.specs.Order.{Reaches}
 use Rattle.replay.specs.Program.{program}
-use Rattle.replay.specs.Step.{registers, syncs}
+use Rattle.steps.specs.Step.{registers, syncs}
 
 -- each arrive, and each sync, reaches every sync of the same barrier and generation
 abbrev pub meets : List ℕ → (ℕ → ℕ) → ℕ → ℕ → Bool

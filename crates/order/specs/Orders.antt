@@ -6,12 +6,12 @@ use Prim.Native.Nat.{ℕ}
 use lib.ListN.{length}
 use Rattle.verdicts.specs.Verdicts.{numbered}
 use Rattle.verdicts.specs.declared.Verdict.{Verdict}
-use Rattle.rooms.specs.Refusals.{refused}
+use Rattle.rooms.specs.Refusals.{refusedSizes}
 use Rattle.rooms.specs.Rooms.{numberAt}
 use Rattle.order.specs.Order.{Reached}
 
--- 1 to 4 and the room as it was; or 0, and the room holds what reaches what over the generations.
+-- Any numbers may stand in the tables. 1 or 4, by the lengths alone, and the room as it was; or 0, and the room holds what reaches what over the generations.
 pub record Orders (commands lengths generations relation : List ℕ) (r : Verdict) (relation′ : List ℕ) : Type 0 where
-  pub verdict : numbered r ≡ refused commands lengths (length relation) (length generations)
+  pub verdict : numbered r ≡ refusedSizes commands (length relation) (length generations)
   pub kept : numbered r .number ≢ 0 → relation′ ≡ relation
   pub holds : numbered r .number ≡ 0 → Reached commands lengths (numberAt generations) relation relation′

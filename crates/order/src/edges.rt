@@ -1,23 +1,16 @@
 // The edges of happens-before over offered generations.
 ghost use mathlib.Core.Path.{_≡_};
 ghost use Prim.Native.Nat.{_≤_, _<_};
-ghost use lib.Dec.{eqb};
 ghost use lib.ListN.{length};
 ghost use Rattle.tables.specs.Limits.{mostRows};
-ghost use Rattle.tables.specs.Rows.{rows, name};
+ghost use Rattle.tables.specs.Rows.{rows};
 ghost use Rattle.rooms.specs.Rooms.{numberAt, TwoCommands};
 ghost use Rattle.order.specs.Order.{meets};
 ghost use Rattle.order.specs.Leaders.{meetsRow};
 ghost use Rattle.order.specs.Draws.{follows};
 use tables::Table;
-
-// Have i and j the same barrier, or the same address?
-fn same_name(commands: &[u32], i: usize, j: usize) -> bool
-    requires { ⌜ (i < rows (now commands)) × (j < rows (now commands)) ⌝ }
-    ensures { λ r. ⌜ r ≡ eqb (name (now (commands .entry)) i) (name (now (commands .entry)) j) ⌝ }
-{
-    commands[i * 3 + 1] == commands[j * 3 + 1]
-}
+use tables::is_first;
+use tables::same_name;
 
 // Does i register where and when j syncs: at the same barrier, in the same generation?
 fn meets(commands: &[u32], generations: &[u32], i: usize, j: usize) -> bool
@@ -53,7 +46,7 @@ pub(crate) fn follows(heads: &[usize; Table::ROWS], m: usize, c: usize) -> bool
 {
     let next = c + 1;
     if next < m {
-        return next != heads[next];
+        return !is_first(heads, next);
     }
     false
 }

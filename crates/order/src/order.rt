@@ -1,13 +1,13 @@
 // Happens-before over offered generations, into its room.
-ghost use Rattle.rooms.specs.Rooms.{numberAt, Roomy};
+ghost use lib.ListN.{length};
+ghost use Rattle.rooms.specs.Rooms.{numberAt, Ample};
 ghost use Rattle.order.specs.Order.{Reached};
 ghost use Rattle.order.specs.Orders.{Orders};
 use crate::leaders::SEATS;
 use crate::leaders::choose;
 use crate::pairs::NUMBERS;
 use crate::pairs::put_pairs;
-use rooms::admits;
-use rooms::refuse;
+use rooms::refuse_sizes;
 use sweeps::put_reach;
 use tables::Table;
 use tables::put_heads;
@@ -15,8 +15,10 @@ use verdicts::Verdict;
 
 // The rooms suffice: pairs are listed, and what they reach is happens-before. A seat that nobody takes holds no row's number.
 fn put_reached(commands: &[u32], lengths: &[u32], generations: &[u32], relation: &mut [u32])
-    requires { ⌜ Roomy (now commands) (now lengths) (now generations) (now relation) ⌝ }
-    ensures { λ _. ⌜ Reached (now (commands .entry)) (now (lengths .entry)) (numberAt (now (generations .entry))) (now (relation .entry)) (now (relation .exit)) ⌝ }
+    requires { ⌜ Ample (now commands) (length (now relation)) (length (now generations)) ⌝ }
+    ensures { λ _.
+        ⌜ Reached (now (commands .entry)) (now (lengths .entry)) (numberAt (now (generations .entry)))
+        (now (relation .entry)) (now (relation .exit)) ⌝ }
 {
     let mut heads = [0; Table::ROWS];
     put_heads(lengths, &mut heads);
@@ -45,8 +47,9 @@ pub fn put_order(
 ) -> Verdict
     ensures { λ r. ⌜ Orders (now (commands .entry)) (now (lengths .entry)) (now (generations .entry)) (now (relation .entry)) r (now (relation .exit)) ⌝ }
 {
-    if !admits(commands, lengths, relation.len(), generations.len()) {
-        return refuse(commands, lengths, relation.len(), generations.len());
+    let refusal = refuse_sizes(commands, relation.len(), generations.len());
+    if refusal.number().number != 0 {
+        return refusal;
     }
     put_reached(commands, lengths, generations, relation);
     Verdict::Clean

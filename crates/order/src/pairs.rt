@@ -12,6 +12,7 @@ use crate::edges::meets_row;
 use crate::leaders::SEATS;
 use crate::leaders::leader;
 use tables::Table;
+use tables::is_first;
 
 // Two numbers for a pair, and three pairs for a command.
 pub(crate) const NUMBERS: usize = 6 * Table::ROWS;
@@ -41,7 +42,9 @@ fn put_command(
     c: usize,
 ) -> usize
     requires { ⌜ (rows (now commands) ≤ mostRows) × (n * 2 + 6 ≤ length (now pairs)) × OneCommand (now commands) (now generations) c ⌝ }
-    ensures { λ r. ⌜ Adds 3 (Draws (now (commands .entry)) (now (generations .entry)) (now (heads .entry)) (now (leaders .entry)) c) (now (pairs .entry)) (now (pairs .exit)) n r ⌝ }
+    ensures { λ r.
+        ⌜ Adds 3 (Draws (now (commands .entry)) (now (generations .entry)) (now (heads .entry)) (now (leaders .entry)) c)
+        (now (pairs .entry)) (now (pairs .exit)) n r ⌝ }
 {
     let l = leader(commands, generations, leaders, c);
     let from = put_pair(pairs, n, meets_row(commands, generations, l, c), l, c);
@@ -74,15 +77,19 @@ pub(crate) fn put_pairs(
     pairs: &mut [u32],
     parts: &mut [u32],
 ) -> usize
-    requires { ⌜ (rows (now commands) ≤ mostRows) × (rows (now commands) ≤ length (now generations)) × (rows (now commands) * 6 ≤ length (now pairs)) × (0 < length (now parts)) ⌝ }
-    ensures { λ r. ⌜ Adds (3 * rows (now (commands .entry))) (DrawsBelow (now (commands .entry)) (now (generations .entry)) (now (heads .entry)) (now (leaders .entry)) (rows (now (commands .entry)))) (now (pairs .entry)) (now (pairs .exit)) 0 r ⌝ }
+    requires { ⌜ (rows (now commands) ≤ mostRows) × (rows (now commands) ≤ length (now generations))
+        × (rows (now commands) * 6 ≤ length (now pairs)) × (0 < length (now parts)) ⌝ }
+    ensures { λ r.
+        ⌜ Adds (3 * rows (now (commands .entry)))
+        (DrawsBelow (now (commands .entry)) (now (generations .entry)) (now (heads .entry)) (now (leaders .entry)) (rows (now (commands .entry))))
+        (now (pairs .entry)) (now (pairs .exit)) 0 r ⌝ }
 {
     let m = commands.len() / 3;
     let mut n = 0;
     let mut p = 0;
     let mut c = 0;
     while c < m {
-        p = put_part(parts, p, n, heads[c] == c);
+        p = put_part(parts, p, n, is_first(heads, c));
         n = put_command(commands, generations, heads, leaders, pairs, n, c);
         c += 1;
     }

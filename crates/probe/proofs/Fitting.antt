@@ -2,15 +2,14 @@
 use mathlib.Core.Path.{_≡_, refl, sym, ap, _∙_}
 use mathlib.Core.Logic.{by-cases, _≢_}
 use mathlib.Core.Bool.{Bool, true, false, cond}
-use mathlib.Core.List.{List}
+use mathlib.Core.List.{List, []}
 use Prim.Native.Nat.{ℕ, _≤_}
 use native.Mathlib.Decide.{ℕ-discrete}
 use native.Mathlib.Omega.{arith}
-use lib.Dec.{ltb}
 use lib.ListN.{length}
 use Rattle.tables.specs.Limits.{mostRows, mostThreads}
 use Rattle.tables.specs.Rows.{rows}
-use Rattle.tables.specs.Rules.{checked}
+use Rattle.rules.specs.Rules.{checked}
 use Rattle.verdicts.specs.Verdicts.{tell, numbered}
 use Rattle.verdicts.specs.declared.Told.{Told}
 use Rattle.grammar.specs.Grammar.{allCommands, threads}
@@ -18,10 +17,13 @@ use Rattle.notation.specs.Reading.{mostBytes, answered, restAt}
 use Rattle.notation.specs.Promise.{Read}
 use Rattle.notation.specs.declared.reading.Reading.{Reading}
 use Rattle.notation.specs.declared.reading.Reading.the-variants.{Unfit, Over, Accepted}
-use Rattle.replay.specs.Writer.{unwritten, shortRoom}
+use Rattle.rooms.specs.Short.{roomOf, firstShort}
+use Rattle.rooms.proofs.Rooms.{first-either, none-either}
+use Rattle.replay.specs.Writer.{writerRooms, unwritten}
 use Rattle.replay.specs.Doors.{WritesSchedule}
 use Rattle.replay.specs.declared.writer.Written.{Written}
-use Rattle.replay.proofs.Refusals.{or-either, unwritten-keeps}
+use Rattle.verdicts.proofs.InOrder.{or-either}
+use Rattle.replay.proofs.Refusals.{unwritten-keeps}
 use Rattle.replay.proofs.Places.{Placed, placed, checked-placed, schedule-few}
 use Rattle.review.specs.Agreement.{number}
 use Rattle.kernels.specs.Limits.{mostStatements}
@@ -58,11 +60,8 @@ module _ {commands lengths σ relation generations evidence : List ℕ} {r : Evi
 unwritten-placed : (commands lengths : List ℕ) (room : ℕ) → Placed (unwritten commands lengths room)
 unfolding unwritten mostRows
 unwritten-placed commands lengths room =
-    or-either Placed (checked commands lengths) (shortRoom (rows commands) room) (checked-placed commands lengths) (λ _. by (ltb room (rows commands)))
-  where
-    by : (b : Bool) → Placed (cond b (tell 4 2 0) (tell 0 0 0))
-    by true = placed 4 2 (omega arith)
-    by false = placed 0 0 (omega arith)
+    or-either Placed (checked commands lengths) (firstShort (writerRooms (rows commands) room)) (checked-placed commands lengths)
+    (λ _. first-either (roomOf 2 (rows commands) room) [] Placed (placed 4 2 (omega arith)) (none-either Placed (placed 0 0 (omega arith))))
 
 -- and there are few where a schedule is written
 module _ {commands lengths room room′ : List ℕ} {r : Written} (W : WritesSchedule commands lengths room room′ r) where

@@ -48,7 +48,8 @@ impl<'a> Reader<'a> {
 
     // the text from there on
     pub fn rest(self) -> &'a [u8]
-        ensures { λ s. ⌜ (now s ≡ restIn (now (self .entry .text)) (self .entry .at)) × (s .ptr ≡ ahead (self .entry .text .ptr) (placeIn (now (self .entry .text)) (self .entry .at))) ⌝ }
+        ensures { λ s. ⌜ (now s ≡ restIn (now (self .entry .text)) (self .entry .at))
+            × (s .ptr ≡ ahead (self .entry .text .ptr) (placeIn (now (self .entry .text)) (self .entry .at))) ⌝ }
     {
         tail(self.text, self.at)
     }

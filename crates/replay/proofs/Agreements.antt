@@ -6,7 +6,7 @@ use mathlib.Core.List.{List, reverse, reverse-reverse}
 use Prim.Native.Nat.{ℕ, zero, suc, _+_, _<_}
 use native.Mathlib.Omega.{arith}
 use Rattle.tables.specs.Rows.{rows, threadOf}
-use Rattle.tables.specs.Rules.{Keeps}
+use Rattle.rules.specs.Rules.{Keeps}
 use Rattle.relation.specs.Chains.{here, goes}
 use Rattle.relation.proofs.Chains.{reach-map}
 use Rattle.relation.proofs.Truth.{isnt}

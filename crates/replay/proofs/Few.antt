@@ -8,7 +8,7 @@ use native.Mathlib.Decide.{ℕ-discrete}
 use native.Mathlib.Omega.{arith}
 use lib.ListN.{length}
 use Rattle.tables.specs.Rows.{rows}
-use Rattle.tables.specs.Rules.{Keeps}
+use Rattle.rules.specs.Rules.{Keeps}
 use Rattle.relation.proofs.Truth.{clashing, split}
 use Rattle.schedules.specs.Tally.{tally}
 use Rattle.schedules.specs.Machine.{Program, State, next, state}

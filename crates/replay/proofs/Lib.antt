@@ -1,13 +1,11 @@
 -- Laws, by subject, in an order that can be read.
--- The code's loops and tests: Registering, Steps, Picking (which thread a writer lets step), Endings, Refusals.
+-- Who steps and what is refused: Picking (which thread a writer lets step), Refusals.
 -- The kept state and the machine of `schedules`: Programs (the tables as a program with threads), Phases and Waits (what kept barriers and waits
--- stand for), Few (how long a schedule is), Ties (the two states beside each other), Tied (one step of both), Standing and Replaying (what loops need).
--- Whole schedules: Plays (a replay), Judged (what is told of it), Places (where that stands), Schedules (legal, complete and clean are the same for both), Writing (the schedule writer's
--- loop), Written (its two doors), Precede (what stands before what), Steering (the schedule in which some commands go first runs them as far as they go), Agreements, Unique (the doors have one answer each).
-pub mod Registering
-pub mod Steps
+-- stand for), Few (how long a schedule is), Ties (the two states beside each other, and that counters stay small), Tied (one step of both).
+-- Whole schedules: Plays (a replay), Judged (what is told of it), Places (where that stands), Schedules (legal, complete and clean are the same for both), Writing (what a choice writes
+-- is complete), Written (the writers' two doors), Precede (what stands before what), Steering (the schedule in which some commands go first runs them as far as they go), Agreements, Unique (the
+-- doors have one answer each).
 pub mod Picking
-pub mod Endings
 pub mod Refusals
 pub mod Programs
 pub mod Phases
@@ -15,8 +13,6 @@ pub mod Waits
 pub mod Few
 pub mod Ties
 pub mod Tied
-pub mod Standing
-pub mod Replaying
 pub mod Plays
 pub mod Judged
 pub mod Places

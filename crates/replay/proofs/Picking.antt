@@ -1,6 +1,6 @@
 -- Which thread a writer lets step; and that no more is asked of the commands that go first than what is said of rows. Assumes nothing.
 use mathlib.Core.Path.{_≡_, refl, _∙_}
-use mathlib.Core.Bool.{Bool, false, not, _||_}
+use mathlib.Core.Bool.{Bool, true, false, not, _||_}
 use mathlib.Core.List.{List}
 use mathlib.Core.Logic.{⊎-elim}
 use Prim.Native.Nat.{ℕ, zero, suc, _+_, _≤_, _<_}
@@ -11,24 +11,21 @@ use lib.Seq.{getD-set-same, getD-set-other}
 use borrow.Author.Count.{below-none, below-more}
 use Rattle.tables.specs.Lowest.{lowest}
 use Rattle.tables.specs.Rows.{rows}
-use Rattle.tables.specs.Rules.{Keeps}
+use Rattle.rules.specs.Rules.{Keeps}
 use Rattle.tables.proofs.Lowest.{lowest-first, lowest-is}
-use Rattle.turns.specs.Turns.{goesFirst, stepsFirst, turn}
+use Rattle.tables.proofs.Rows.{end-most}
+use Rattle.turns.specs.Turns.{goesFirst}
 use Rattle.turns.proofs.Turns.{or-none}
 use Rattle.relation.proofs.Truth.{split}
-use Rattle.replay.specs.declared.state.Replay.{Replay}
-use Rattle.replay.specs.State.{start}
-use Rattle.replay.specs.Step.{allowed, command, stepped}
-use Rattle.replay.specs.Ending.{lowestAllowed}
-use Rattle.replay.specs.Writer.{stepping, scheduleBy, picked, pickedFirst, apartFrom, apartSchedule, PutsApart}
-use Rattle.replay.proofs.Steps.{may, next-row}
+use Rattle.steps.specs.declared.state.Replay.{Replay}
+use Rattle.steps.specs.State.{start}
+use Rattle.steps.specs.Step.{allowed, command, stepped}
+use Rattle.steps.specs.Ending.{lowestAllowed}
+use Rattle.steps.specs.Writing.{stepping, picked, pickedFirst}
+use Rattle.steps.proofs.Changing.{may}
+use Rattle.replay.specs.Writer.{scheduleBy, apartFrom, apartSchedule, PutsApart}
 
 -- ---- the thread that steps
-
--- whose turn it is, of what the state holds
-pub turn-is : (early : ℕ → Bool) (lengths : List ℕ) (s : Replay) {t : ℕ} → t ≡ turn early lengths (s .next) (s .waits) → t ≡ pickedFirst early lengths s
-unfolding pickedFirst picked allowed stepsFirst
-turn-is early lengths s e = e
 
 -- where no command goes first, the lowest allowed thread steps
 pub picks-lowest : (early : ℕ → Bool) (lengths : List ℕ) (s : Replay) → ((x : ℕ) → early x ≡ false) → lowestAllowed lengths s ≡ pickedFirst early lengths s
@@ -58,12 +55,16 @@ lowest-alike p q n e =
       below = λ k l. e k (omega (arith, L .at-most)) ∙ L .below k l;
     })
 
+-- the next command of a thread that may step is a row of the table
+next-row : {commands lengths : List ℕ} → Keeps commands lengths → (s : Replay) (t : ℕ) → allowed lengths s t ≡ true → command lengths s t < rows commands
+next-row {commands} {lengths} K s t e = let m = may commands lengths s t e in omega (arith, end-most lengths t, m .left .left, K .adds-up)
+
 module _ {commands lengths : List ℕ} (K : Keeps commands lengths) {early other : ℕ → Bool} (same : (x : ℕ) → x < rows commands → early x ≡ other x) where
   -- the next command of an allowed thread is a row
   picked-alike : (s : Replay) (t : ℕ) → picked early lengths s t ≡ picked other lengths s t
   unfolding picked
   picked-alike s t =
-      ⊎-elim (λ e. rw e (same (command lengths s t) (next-row commands lengths s t K (may lengths s t e)))) (λ e. rw e) (split (allowed lengths s t))
+      ⊎-elim (λ e. rw e (same (command lengths s t) (next-row K s t e))) (λ e. rw e) (split (allowed lengths s t))
 
   pub first-alike : (s : Replay) → pickedFirst early lengths s ≡ pickedFirst other lengths s
   unfolding pickedFirst

@@ -11,21 +11,23 @@ use lib.ListN.{length, getD, length-reverse}
 use borrow.Author.Tests.{ltb-true}
 use Rattle.tables.specs.Limits.{mostRows, barriers}
 use Rattle.tables.specs.Rows.{rows}
-use Rattle.tables.specs.Rules.{Keeps, checked}
+use Rattle.rules.specs.Rules.{Keeps, checked}
 use Rattle.verdicts.specs.Verdicts.{tell}
+use Rattle.verdicts.specs.Numbers.{endsUnclean}
 use Rattle.verdicts.specs.declared.Told.{Told}
 use Rattle.verdicts.specs.declared.Verdict.the-variants as verdict
 use Rattle.tables.proofs.Lowest.{lowest-first, lowest-hit}
 use Rattle.tables.proofs.Rows.{end-most}
-use Rattle.tables.proofs.Rules.{checked-place}
+use Rattle.rules.proofs.Rules.{checked-place}
 use Rattle.relation.proofs.Truth.{clashing, isnt}
 use Rattle.schedules.proofs.Threads.{stand}
-use Rattle.replay.specs.declared.state.Replay.{Replay}
-use Rattle.replay.specs.State.{start}
-use Rattle.replay.specs.Step.{allowed, stepped}
-use Rattle.replay.specs.Writer.{goesOn, stepping, scheduleBy, schedule}
-use Rattle.replay.specs.Ending.{isBlocked, barrierSet, lowestAllowed, lowestBlocked, lowestSet, lastRun, ended, judged}
-use Rattle.replay.specs.Replay.{played, generation}
+use Rattle.steps.specs.declared.state.Replay.{Replay}
+use Rattle.steps.specs.State.{start}
+use Rattle.steps.specs.Step.{allowed, stepped}
+use Rattle.steps.specs.Writing.{goesOn, stepping}
+use Rattle.replay.specs.Writer.{scheduleBy, schedule}
+use Rattle.steps.specs.Ending.{isBlocked, barrierSet, lowestAllowed, lowestBlocked, lowestSet, lastRun, ended, judged}
+use Rattle.steps.specs.Going.{played, generation}
 use Rattle.replay.specs.Schedules.{stateAfter, Complete, stopped, mismatched, Clean}
 use Rattle.replay.proofs.Programs.{threads}
 use Rattle.replay.proofs.Few.{legal-few, gens-few}
@@ -95,28 +97,25 @@ module _ {commands lengths : List ℕ} (K : Keeps commands lengths) where
 
 -- ---- a legal complete schedule is told 7 to 9, or 0
 
-abbrev Told₇ : ℕ → Type 0
-Told₇ n = (n ≡ 0) ⊎ ((7 ≤ n) × (n ≤ 9))
-
-ended-told : (a b d : Bool) (p q r : ℕ) → a ≡ false → Told₇ (cond a (tell 6 p 0) (cond b (tell 8 q 0) (cond d (tell 9 r 0) (tell 0 0 0))) .number)
+ended-told : (a b d : Bool) (p q r : ℕ) → a ≡ false
+    → let n = cond a (tell 6 p 0) (cond b (tell 8 q 0) (cond d (tell 9 r 0) (tell 0 0 0))) .number in (n ≡ 0) ⊎ (endsUnclean n ≡ true)
 ended-told true b d p q r e = clashing refl e
-ended-told false true d p q r e = inr (omega arith, omega arith)
-ended-told false false true p q r e = inr (omega arith, omega arith)
+ended-told false true d p q r e = inr refl
+ended-told false false true p q r e = inr refl
 ended-told false false false p q r e = inl refl
 
 pub complete-told : {commands lengths : List ℕ} (σ : List ℕ) → Complete commands lengths σ
-    → (judged lengths (played commands lengths σ) .number ≡ 0)
-    ⊎ ((7 ≤ judged lengths (played commands lengths σ) .number) × (judged lengths (played commands lengths σ) .number ≤ 9))
+    → (judged lengths (played commands lengths σ) .number ≡ 0) ⊎ (endsUnclean (judged lengths (played commands lengths σ) .number) ≡ true)
 unfolding judged ended
 complete-told {commands} {lengths} σ (stopped c stop) =
     let s = stateAfter commands lengths σ in
     rw c (ended-told (ltb (lowestAllowed lengths s) (length lengths)) (ltb (lowestBlocked lengths s) (length lengths)) (ltb (lowestSet s) barriers) _ _ _
     (isnt _ (λ e. clashing (lowest-hit (allowed lengths s) (length lengths) e .1) (stop (lowestAllowed lengths s)))))
-complete-told σ (mismatched v _) = rw v (inr (omega arith, omega arith))
+complete-told σ (mismatched v _) = rw v (inr refl)
 
 -- what is complete and not clean ends in 7, 8 or 9
 pub dirty-told : {commands lengths : List ℕ} (σ : List ℕ) → Complete commands lengths σ → ¬ Clean commands lengths σ
-    → (7 ≤ judged lengths (played commands lengths σ) .number) × (judged lengths (played commands lengths σ) .number ≤ 9)
+    → endsUnclean (judged lengths (played commands lengths σ) .number) ≡ true
 dirty-told {commands} {lengths} σ c n = ⊎-elim (λ z. absurd (n (clean-told commands lengths σ z))) (λ w. w) (complete-told σ c)
 
 -- ---- a written schedule has no more steps than there are rows
@@ -127,17 +126,17 @@ module _ (commands lengths : List ℕ) where
   one-more true false t n σ l = omega arith
   one-more false b t n σ l = omega arith
 
-  steps-few : (choose : Replay → ℕ) (n : ℕ) (s : Replay) → length (stepping choose commands lengths n s) ≤ n
+  pub stepping-few : (choose : Replay → ℕ) (n : ℕ) (s : Replay) → length (stepping choose commands lengths n s) ≤ n
   unfolding stepping
-  steps-few choose zero s = omega arith
-  steps-few choose (suc n) s =
+  stepping-few choose zero s = omega arith
+  stepping-few choose (suc n) s =
       let t = choose s in
       let d = stepped commands lengths s t in
-      one-more (ltb t (length lengths)) (goesOn (d .did)) t n (stepping choose commands lengths n (d .after)) (steps-few choose n (d .after))
+      one-more (ltb t (length lengths)) (goesOn (d .did)) t n (stepping choose commands lengths n (d .after)) (stepping-few choose n (d .after))
 
   pub schedule-by-few : (choose : Replay → ℕ) → length (scheduleBy choose commands lengths) ≤ rows commands
   unfolding scheduleBy
-  schedule-by-few choose = steps-few choose (rows commands) start
+  schedule-by-few choose = stepping-few choose (rows commands) start
 
   pub schedule-few : length (schedule commands lengths) ≤ rows commands
   unfolding schedule

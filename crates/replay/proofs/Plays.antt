@@ -9,7 +9,7 @@ use lib.ListN.{length, getD, set, replicate, length-set, length-replicate, getD-
 use lib.Seq.{getD-set-same, getD-set-other}
 use Rattle.tables.specs.Limits.{mostRows}
 use Rattle.tables.specs.Rows.{rows}
-use Rattle.tables.specs.Rules.{Keeps}
+use Rattle.rules.specs.Rules.{Keeps}
 use Rattle.verdicts.specs.Verdicts.{numbered}
 use Rattle.verdicts.specs.declared.Verdict.{Verdict}
 use Rattle.verdicts.specs.declared.Verdict.the-variants as verdict
@@ -19,15 +19,21 @@ use Rattle.schedules.specs.Machine.{Program, Matches}
 use Rattle.schedules.specs.Threads.{Threads, at, after, gens, commands, Legal, Steps}
 use Rattle.schedules.proofs.Step.{gen-other}
 use Rattle.schedules.proofs.Tests.{not-matching}
-use Rattle.replay.specs.declared.state.Replay.{Replay}
-use Rattle.replay.specs.declared.step.How.the-variants.{Mismatch}
-use Rattle.replay.specs.declared.step.Did.the-variants.{NotAllowed}
-use Rattle.replay.specs.declared.replay.Replayed.{Replayed}
-use Rattle.replay.specs.State.{start}
-use Rattle.replay.specs.Step.{allowed, stepped}
-use Rattle.replay.specs.Replay.{playing, played}
+use Rattle.steps.specs.declared.state.Replay.{Replay}
+use Rattle.steps.specs.declared.step.How.the-variants.{Mismatch}
+use Rattle.steps.specs.declared.step.Did.{Did}
+use Rattle.steps.specs.declared.step.Did.the-variants.{NotAllowed}
+use Rattle.steps.specs.declared.step.Stepped.{Stepped}
+use Rattle.steps.specs.declared.going.Replayed.{Replayed}
+use Rattle.steps.specs.State.{start}
+use Rattle.steps.specs.Step.{allowed, stepped}
+use Rattle.turns.specs.Counting.{counted}
+use Rattle.steps.specs.Going.{ends, wentOn, goOn, begun, played}
+use Rattle.turns.proofs.Turns.{counted-more}
+use Rattle.steps.proofs.Entries.{one-on, stays-ended}
 use Rattle.replay.specs.Program.{program}
 use Rattle.replay.proofs.Programs.{threads}
+use Rattle.replay.proofs.Few.{legal-few}
 use Rattle.replay.proofs.Ties.{Stands, stands-start, allowed-steps, steps-allowed, command-row}
 use Rattle.replay.proofs.Tied.{Outcome, ran, mismatched, outcome, not-allowed}
 
@@ -91,29 +97,49 @@ module _ {table lengths : List ℕ} (K : Keeps table lengths) where
   here : (t : ℕ) (σ υ : List ℕ) (r : Replayed) (n : ℕ) → Stands K υ (r .state) → r .steps ≡ n → Entry (t ∷ σ) υ r n
   here t σ υ r n S e = record { ρ = []; t = t; rest = σ; splits = refl; stands = S; steps = omega arith }
 
+  -- one entry more goes on as its step says
+  goes : (t : ℕ) (σ : List ℕ) (s : Replay) (g : List ℕ) (n : ℕ) {d : Did} {a : Replay} → stepped table lengths s t .did ≡ d → stepped table lengths s t .after ≡ a
+      → goOn table lengths (t ∷ σ) (ends s g n verdict.Clean) ≡ goOn table lengths σ (wentOn d a (ends s g n verdict.Clean))
+  unfolding goOn
+  goes t σ s g n e f = ap (goOn table lengths σ) (one-on table lengths (ends s g n verdict.Clean) t refl e f)
+
+  -- the steps of a legal schedule are few, and the counter goes up
+  counts-on : {υ : List ℕ} {s : Replay} {n : ℕ} → Stands K υ s → n ≡ length υ → counted n ≡ n + 1
+  unfolding mostRows
+  counts-on {υ} {s} {n} S e = counted-more n (omega (arith, e, legal-few K υ (S .legal), K .few-rows))
+
   -- an entry, where the entries after it are known to end
-  plays-entry : (t : ℕ) (σ υ : List ℕ) (s : Replay) (g : List ℕ) (n : ℕ) → Stands K υ s → Gens υ g
-      → ((s′ : Replay) (g′ : List ℕ) → Stands K (t ∷ υ) s′ → Gens (t ∷ υ) g′ → Ends σ (t ∷ υ) (playing table lengths σ s′ g′ (n + 1)) (n + 1))
-      → Ends (t ∷ σ) υ (playing table lengths (t ∷ σ) s g n) n
-  unfolding playing here
-  plays-entry t σ υ s g n S G rest =
+  plays-entry : (t : ℕ) (σ υ : List ℕ) (s : Replay) (g : List ℕ) (n : ℕ) → n ≡ length υ → Stands K υ s → Gens υ g
+      → ((s′ : Replay) (g′ : List ℕ) → Stands K (t ∷ υ) s′ → Gens (t ∷ υ) g′ → Ends σ (t ∷ υ) (goOn table lengths σ (ends s′ g′ (n + 1) verdict.Clean)) (n + 1))
+      → Ends (t ∷ σ) υ (goOn table lengths (t ∷ σ) (ends s g n verdict.Clean)) n
+  unfolding here
+  plays-entry t σ υ s g n c S G rest =
       ⊎-elim (λ e. let st = allowed-steps K S t e in by st (outcome K S t st))
-      (λ f. rw (not-allowed K s t f) (refused-at (here t σ υ _ n S refl) (λ st. clashing (steps-allowed K S t st) f) refl))
+      (λ f.
+      let k = not-allowed K s t f in
+      let r = ends s g n (verdict.NotAllowed n) in
+      subst (λ (r : Replayed). Ends (t ∷ σ) υ r n)
+      (sym (goes t σ s g n (ap (λ (d : Stepped). d .did) k) (ap (λ (d : Stepped). d .after) k) ∙ stays-ended table lengths r (λ z. omega arith) σ))
+      (refused-at (here t σ υ r n S refl) (λ st. clashing (steps-allowed K S t st) f) refl))
       (split (allowed lengths s t))
     where
-      by : Steps P H υ t → Outcome K υ s t → Ends (t ∷ σ) υ (playing table lengths (t ∷ σ) s g n) n
-      by st (ran q m S′) = rw q (later (rest (stepped table lengths s t .after) _ S′ (gens-more υ t g G (command-row K S t st))))
-      by st (mismatched q k m) = rw q (mismatched-at (here t σ υ _ n (rw k S) refl) st m refl)
+      by : Steps P H υ t → Outcome K υ s t → Ends (t ∷ σ) υ (goOn table lengths (t ∷ σ) (ends s g n verdict.Clean)) n
+      by st (ran q m S′) =
+          subst (λ (r : Replayed). Ends (t ∷ σ) υ r n) (sym (goes t σ s g n q refl))
+          (later (rw (counts-on S c) (rest (stepped table lengths s t .after) _ S′ (gens-more υ t g G (command-row K S t st)))))
+      by st (mismatched q k m) =
+          let r = ends s g n (verdict.Mismatch (at P H υ t)) in
+          subst (λ (r : Replayed). Ends (t ∷ σ) υ r n) (sym (goes t σ s g n q k ∙ stays-ended table lengths r (λ z. omega arith) σ)) (mismatched-at (here t σ υ r n S refl) st m refl)
 
-  plays : (σ υ : List ℕ) (s : Replay) (g : List ℕ) (n : ℕ) → Stands K υ s → Gens υ g → Ends σ υ (playing table lengths σ s g n) n
-  unfolding playing
-  plays [] υ s g n S G = through S G refl (omega arith)
-  plays (t ∷ σ) υ s g n S G = plays-entry t σ υ s g n S G (λ s′ g′ S′ G′. plays σ (t ∷ υ) s′ g′ (n + 1) S′ G′)
+  plays : (σ υ : List ℕ) (s : Replay) (g : List ℕ) (n : ℕ) → n ≡ length υ → Stands K υ s → Gens υ g → Ends σ υ (goOn table lengths σ (ends s g n verdict.Clean)) n
+  unfolding goOn
+  plays [] υ s g n c S G = through S G refl (omega arith)
+  plays (t ∷ σ) υ s g n c S G = plays-entry t σ υ s g n c S G (λ s′ g′ S′ G′. plays σ (t ∷ υ) s′ g′ (n + 1) (omega arith) S′ G′)
 
   -- how the replay of a schedule ends
   pub plays-all : (σ : List ℕ) → Ends σ [] (played table lengths σ) 0
-  unfolding played
-  plays-all σ = plays σ [] start _ 0 (stands-start K) gens-start
+  unfolding played begun
+  plays-all σ = plays σ [] start _ 0 refl (stands-start K) gens-start
 
   -- ---- a legal schedule goes through
 

@@ -6,7 +6,7 @@ use native.Mathlib.Omega.{arith}
 use lib.ListN.{length, take, drop, take-append-drop}
 use lib.Seq.{take-append-seam}
 use Rattle.tables.specs.Rows.{rows}
-use Rattle.tables.specs.Rules.{Keeps}
+use Rattle.rules.specs.Rules.{Keeps}
 use Rattle.schedules.specs.Machine as machine
 use Rattle.schedules.specs.Machine.{Program}
 use Rattle.schedules.specs.Threads.{Threads, commands, Legal}

@@ -9,13 +9,13 @@ use lib.ListN.{length}
 use borrow.Author.Tests.{eqb-true, eqb-false, eq-eqb, leb-true, not-false}
 use Rattle.tables.specs.Limits.{barriers}
 use Rattle.tables.specs.Rows.{rows, kind, name, count, arrive, sync, firstRow, endRow, threadOf}
-use Rattle.tables.specs.Rules.{Keeps}
+use Rattle.rules.specs.Rules.{Keeps}
 use Rattle.tables.proofs.Rows.{home, only}
-use Rattle.tables.proofs.Rules.{row-barrier}
+use Rattle.rules.proofs.Rules.{row-barrier}
 use Rattle.relation.proofs.Truth.{same-test}
 use Rattle.schedules.specs.Machine.{Lawful}
 use Rattle.schedules.specs.Threads.{Threads}
-use Rattle.replay.specs.Step.{registers}
+use Rattle.steps.specs.Step.{registers}
 use Rattle.replay.specs.Program.{program}
 
 turned : (m n : ℕ) → eqb m n ≡ eqb n m

@@ -8,7 +8,7 @@ use native.Mathlib.Decide.{decLt}
 use lib.ListN.{length, length-append, length-reverse}
 use Rattle.tables.specs.Limits.{barriers}
 use Rattle.tables.specs.Rows.{rows}
-use Rattle.tables.specs.Rules.{Keeps}
+use Rattle.rules.specs.Rules.{Keeps}
 use Rattle.verdicts.specs.Verdicts.{numbered}
 use Rattle.verdicts.specs.declared.Verdict.{Verdict}
 use Rattle.verdicts.specs.declared.Verdict.the-variants as verdict
@@ -17,13 +17,11 @@ use Rattle.schedules.specs.Machine as machine
 use Rattle.schedules.specs.Threads as threads
 use Rattle.schedules.proofs.Tests.{not-matching}
 use Rattle.schedules.proofs.Theorems.{all-ran}
-use Rattle.replay.specs.declared.state.Replay.{Replay}
-use Rattle.replay.specs.declared.step.How.the-variants.{Mismatch, Ran}
-use Rattle.replay.specs.declared.step.Did.{Did}
-use Rattle.replay.specs.declared.step.Did.the-variants.{NotAllowed, Took}
-use Rattle.replay.specs.declared.replay.Replayed.{Replayed}
-use Rattle.replay.specs.Step.{stepped}
-use Rattle.replay.specs.Replay.{goingOn, playing, played, generation}
+use Rattle.steps.specs.declared.step.Did.{Did}
+use Rattle.steps.specs.declared.going.Replayed.{Replayed}
+use Rattle.steps.specs.Step.{stepped}
+use Rattle.steps.specs.Going.{wentOn, goOn, begun, played, generation}
+use Rattle.steps.proofs.Entries.{go-on-joined, one-on}
 use Rattle.replay.specs.Program.{program}
 use Rattle.replay.specs.Schedules.{Stops, Complete, stopped, mismatched, Clean}
 use Rattle.replay.proofs.Programs as programs
@@ -35,24 +33,6 @@ use Rattle.replay.proofs.Plays.{Ends, through, refused-at, mismatched-a
 -- verdicts of different numbers are not the same
 pub unlike {ℓ} : {A : Type ℓ} {v w : Verdict} → v ≡ w → numbered v .number ≢ numbered w .number → A
 unlike e n = absurd (n (ap (λ (v : Verdict). numbered v .number) e))
-
--- a replay of entries that go through goes on with the entries after them
-module _ (commands lengths : List ℕ) where
-  by-step : (d : Did) (s : Replay) (g : List ℕ) (n : ℕ) (f h : List ℕ → Replayed) (k : Replayed → Replayed)
-      → ((g′ : List ℕ) → f g′ .verdict ≡ verdict.Clean → h g′ ≡ k (f g′))
-      → goingOn d s g n f .verdict ≡ verdict.Clean → goingOn d s g n h ≡ k (goingOn d s g n f)
-  by-step NotAllowed s g n f h k e c = unlike c (λ z. omega arith)
-  by-step (Took (Mismatch x)) s g n f h k e c = unlike c (λ z. omega arith)
-  by-step (Took (Ran x y)) s g n f h k e c = e _ c
-
-  goes-on : (ρ τ : List ℕ) (s : Replay) (g : List ℕ) (n : ℕ) → playing commands lengths ρ s g n .verdict ≡ verdict.Clean
-      → playing commands lengths (ρ ++ τ) s g n
-      ≡ playing commands lengths τ (playing commands lengths ρ s g n .state) (playing commands lengths ρ s g n .generations) (playing commands lengths ρ s g n .steps)
-  unfolding playing
-  goes-on [] τ s g n c = refl
-  goes-on (t ∷ ρ) τ s g n c =
-      by-step (stepped commands lengths s t .did) (stepped commands lengths s t .after) g n _ _
-      (λ r. playing commands lengths τ (r .state) (r .generations) (r .steps)) (λ g′ c′. goes-on ρ τ _ g′ (n + 1) c′) c
 
 module _ {table lengths : List ℕ} (K : Keeps table lengths) where
   abbrev P : machine.Program
@@ -85,13 +65,12 @@ module _ {table lengths : List ℕ} (K : Keeps table lengths) where
           no-rest [] h = refl
           no-rest (x ∷ l) h = absurd (omega arith)
 
-  -- one more entry, after entries that go through, which mismatches
+  -- one more entry, after entries that go through
   last-entry : (ρ : List ℕ) (t : ℕ) (d : Did) → Through K ρ → stepped table lengths (played table lengths ρ .state) t .did ≡ d
-      → played table lengths (ρ ++ t ∷ [])
-      ≡ goingOn d (stepped table lengths (played table lengths ρ .state) t .after) (played table lengths ρ .generations) (played table lengths ρ .steps)
-      (λ g. playing table lengths [] (stepped table lengths (played table lengths ρ .state) t .after) g (played table lengths ρ .steps + 1))
-  unfolding played playing
-  last-entry ρ t d T e = goes-on table lengths ρ (t ∷ []) _ _ _ (T .verdict) ∙ rw e
+      → played table lengths (ρ ++ t ∷ []) ≡ wentOn d (stepped table lengths (played table lengths ρ .state) t .after) (played table lengths ρ)
+  unfolding played goOn
+  last-entry ρ t d T e =
+      go-on-joined table lengths ρ (t ∷ []) begun ∙ one-on table lengths (played table lengths ρ) t (ap (λ (v : Verdict). numbered v .number) (T .verdict)) e refl
 
   mismatch-last : (ρ : List ℕ) (t : ℕ) → Through K ρ → threads.Steps P H (reverse ρ) t
       → machine.Mismatch P (threads.after P H (reverse ρ)) (threads.at P H (reverse ρ) t) → Complete table lengths (ρ ++ t ∷ [])

@@ -9,7 +9,7 @@ use native.Mathlib.Decide.{ℕ-discrete}
 use lib.Dec.{ltb}
 use lib.ListN.{length}
 use Rattle.tables.specs.Rows.{rows}
-use Rattle.tables.specs.Rules.{Keeps}
+use Rattle.rules.specs.Rules.{Keeps}
 use Rattle.tables.proofs.Lowest.{lowest-hit, lowest-miss}
 use Rattle.relation.proofs.Truth.{split, clashing, both, isnt, pair}
 use Rattle.schedules.specs.Machine.{Program, state}
@@ -17,11 +17,12 @@ use Rattle.schedules.specs.Threads as threads
 use Rattle.schedules.specs.Order.{Goes, stays}
 use Rattle.schedules.proofs.Step.{ran-other}
 use Rattle.schedules.proofs.Tests.{not-matching}
-use Rattle.replay.specs.declared.state.Replay.{Replay}
-use Rattle.replay.specs.State.{start}
-use Rattle.replay.specs.Step.{allowed, command, stepped}
+use Rattle.steps.specs.declared.state.Replay.{Replay}
+use Rattle.steps.specs.State.{start}
+use Rattle.steps.specs.Step.{allowed, command, stepped}
 use Rattle.replay.specs.Program.{program}
-use Rattle.replay.specs.Writer.{goesOn, stepping, scheduleBy, picked, lowestPicked, pickedFirst}
+use Rattle.steps.specs.Writing.{goesOn, stepping, picked, lowestPicked, pickedFirst}
+use Rattle.replay.specs.Writer.{scheduleBy}
 use Rattle.replay.proofs.Programs as programs
 use Rattle.replay.proofs.Few.{steps-few}
 use Rattle.replay.proofs.Ties.{Stands, stands-start, allowed-steps, steps-allowed, command-is}

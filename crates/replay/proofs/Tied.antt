@@ -9,10 +9,10 @@ use native.Mathlib.Omega.{arith}
 use lib.Dec.{eqb}
 use lib.ListN.{length, getD, set, length-set, length-map, List·getD-map}
 use lib.Seq.{getD-set-same, getD-set-other}
-use borrow.Author.Tests.{eq-eqb, ne-eqb}
+use borrow.Author.Tests.{eq-eqb, ne-eqb, lt-ltb}
 use Rattle.tables.specs.Limits.{mostThreads, barriers}
 use Rattle.tables.specs.Rows.{name, count, firstRow}
-use Rattle.tables.specs.Rules.{Keeps}
+use Rattle.rules.specs.Rules.{Keeps}
 use Rattle.relation.proofs.Truth.{clashing, split}
 use Rattle.schedules.specs.Machine.{Program, State, Mismatch, Matches, completes, next, state}
 use Rattle.schedules.specs.Threads.{Threads, at, after, gens, Steps}
@@ -21,20 +21,22 @@ use Rattle.schedules.proofs.Step.{gen-same, gen-idle, done-kept}
 use Rattle.schedules.proofs.Good.{Good}
 use Rattle.schedules.proofs.Threads.{stand, may, good-after, at-same, at-other}
 use Rattle.turns.specs.Turns.{letGo, released}
-use Rattle.replay.specs.declared.barrier.Barrier.{Barrier}
-use Rattle.replay.specs.declared.state.Replay.{Replay}
-use Rattle.replay.specs.declared.step.How.the-variants as how
-use Rattle.replay.specs.declared.step.Did.the-variants.{NotAllowed, Took}
-use Rattle.replay.specs.declared.step.Stepped.{Stepped}
-use Rattle.replay.specs.Barrier.{soFar, refuses, unset, expecting}
-use Rattle.replay.specs.State.{ranSoFar, waiting, barrierAt, advanced, stored, freed}
-use Rattle.replay.specs.Step.{registers, syncs, allowed, command, registering, running, stepped}
-use Rattle.replay.specs.Step as step
+use Rattle.steps.specs.declared.barrier.Barrier.{Barrier}
+use Rattle.steps.specs.declared.state.Replay.{Replay}
+use Rattle.steps.specs.declared.step.How.the-variants as how
+use Rattle.steps.specs.declared.step.Did.the-variants.{NotAllowed, Took}
+use Rattle.steps.specs.declared.step.Stepped.{Stepped}
+use Rattle.turns.specs.Counting.{top}
+use Rattle.steps.specs.Barrier.{soFar, refuses, registration, unset, expecting}
+use Rattle.steps.specs.State.{ranSoFar, waiting, barrierAt, freed}
+use Rattle.steps.specs.Step.{registers, syncs, allowed, command, registering, running, stepped}
+use Rattle.steps.specs.Step as step
+use Rattle.turns.proofs.Turns.{counted-more}
 use Rattle.replay.specs.Program.{program}
 use Rattle.replay.proofs.Programs.{lawful, named, threads}
 use Rattle.replay.proofs.Phases.{BarrierIs, matching, mismatching, barrier-other, completes-is, barrier-full, barrier-more}
 use Rattle.replay.proofs.Waits.{WaitIs, wait-other, wait-freed, wait-gone, wait-on}
-use Rattle.replay.proofs.Ties.{Stands, command-is, steps-allowed, waits-not}
+use Rattle.replay.proofs.Ties.{Stands, command-is, steps-allowed, waits-not, few-got, few-done}
 
 -- who waits for w does so no more
 getD-released : (w : ℕ) (l : List ℕ) (u : ℕ) → w ≢ 0 → getD (released w l) u 0 ≡ letGo w (getD l u 0)
@@ -47,19 +49,19 @@ module _ (s : Replay) (t c : ℕ) (sync : Bool) (b n : ℕ) where
   old = barrierAt s b
 
   clash-is : refuses (old .phase) n ≡ true → registering s t c sync b n ≡ record { after = s; did = Took (how.Mismatch c) }
-  unfolding registering
+  unfolding registering registration
   clash-is e = rw e
 
-  full-is : refuses (old .phase) n ≡ false → eqb (soFar (old .phase) + 1) n ≡ true
-      → registering s t c sync b n ≡ step.ran (freed (advanced (stored s b (unset (old .done + 1))) t) b) c (old .done + 1)
-  unfolding registering
-  full-is e f = rw (e, f)
+  module _ (got : soFar (old .phase) < top) (done : old .done < top) where
+    full-is : refuses (old .phase) n ≡ false → eqb (soFar (old .phase) + 1) n ≡ true
+        → registering s t c sync b n ≡ step.ran (freed (step.entered s t sync b (unset (old .done + 1))) b) c (old .done + 1)
+    unfolding registering registration
+    full-is e f = rw (e, counted-more (soFar (old .phase)) got, counted-more (old .done) done, f)
 
-  more-is : refuses (old .phase) n ≡ false → eqb (soFar (old .phase) + 1) n ≡ false
-      → registering s t c sync b n
-      ≡ step.ran (step.blockedIf sync (advanced (stored s b (expecting n (soFar (old .phase) + 1) (old .done))) t) t b) c (old .done + 1)
-  unfolding registering
-  more-is e f = rw (e, f)
+    more-is : refuses (old .phase) n ≡ false → eqb (soFar (old .phase) + 1) n ≡ false
+        → registering s t c sync b n ≡ step.ran (step.entered s t sync b (expecting n (soFar (old .phase) + 1) (old .done))) c (old .done + 1)
+    unfolding registering registration
+    more-is e f = rw (e, counted-more (soFar (old .phase)) got, counted-more (old .done) done, f)
 
 module _ {commands lengths : List ℕ} (K : Keeps commands lengths) where
   abbrev P : Program
@@ -99,12 +101,12 @@ module _ {commands lengths : List ℕ} (K : Keeps commands lengths) where
     unfolding stepped
     runs-it = rw (steps-allowed K S t st) (ap (running commands s t) (command-is K S t (st .exists)))
 
-    registers-it : registers commands c ≡ true → running commands s t c ≡ registering s t c (syncs commands c) (name commands c) (count commands c)
-    unfolding running
-    registers-it reg = rw reg
-
     there : registers commands c ≡ true → name commands c < barriers
     there = named K c (A .low)
+
+    registers-it : registers commands c ≡ true → running commands s t c ≡ registering s t c (syncs commands c) (name commands c) (count commands c)
+    unfolding running
+    registers-it reg = rw (reg, lt-ltb (name commands c) barriers (there reg))
 
     its-barrier : registers commands c ≡ true → BarrierIs P σ (name commands c) (barrierAt s (name commands c))
     its-barrier reg = S .tie .barrier (name commands c) (there reg)
@@ -190,29 +192,49 @@ module _ {commands lengths : List ℕ} (K : Keeps commands lengths) where
         barriers-long v′ = length-set (s .barriers) b v′ ∙ S .tie .barriers-long
 
         module _ (fits : refuses (v .phase) (count commands c) ≡ false) where
+          got : soFar (v .phase) < top
+          got = few-got K S b (there reg)
+
+          done : v .done < top
+          done = few-done K S b (there reg)
+
+          -- those who wait there are let go, t among them
+          module _ (f : completes P σ c ≡ true) (ws : List ℕ) (long : length ws ≡ mostThreads) (mine : letGo (b + 1) (getD ws t 0) ≡ 0)
+              (rest : (u : ℕ) → t ≢ u → getD ws u 0 ≡ waiting s u) where
+            now : (u : ℕ) → getD (released (b + 1) ws) u 0 ≡ letGo (b + 1) (getD ws u 0)
+            now u = getD-released (b + 1) ws u (λ e. omega arith)
+
+            others : (u : ℕ) → u < length lengths → t ≢ u → WaitIs P H (t ∷ υ) u (getD (released (b + 1) ws) u 0)
+            others u l n =
+                by-cases (ℕ-discrete (waiting s u) (b + 1))
+                (λ (e : waiting s u ≡ b + 1).
+                rw (now u, rest u n, eq-eqb _ _ e) (wait-freed (lawful K) (S .legal) st m n reg f e (S .tie .wait u l)))
+                (λ (d : waiting s u ≢ b + 1).
+                let kept : (a : ℕ) → waiting s u ≡ a + 1 → next P σ c .done a ≡ σ .done a = λ a w. done-kept P σ c a (λ r q. absurd (omega arith)) in
+                rw (now u, rest u n, ne-eqb _ _ d) (wait-other (lawful K) (S .legal) st m n kept (S .tie .wait u l)))
+
+            let-go-so : Stands K (t ∷ υ)
+                (record { next = set (s .next) t (ranSoFar s t + 1); waits = released (b + 1) ws; barriers = set (s .barriers) b (unset (v .done + 1)) })
+            let-go-so =
+                tied (released (b + 1) ws) _ (length-map ws (letGo (b + 1)) ∙ long) (barriers-long _)
+                (rw (now t ∙ mine) (wait-gone (lawful K) (S .legal) st m (λ _. f))) others (all-barriers _ (barrier-full (lawful K) G A m reg B f))
+
           full : completes P σ c ≡ true → Outcome υ s t
           full f =
-              ran-so (registers-it reg ∙ full-is s t c (syncs commands c) b (count commands c) fits (completes-is (lawful K) G A m reg B ∙ f)) generation
-              (tied (released (b + 1) (s .waits)) _ (length-map (s .waits) (letGo (b + 1)) ∙ S .tie .waits-long) (barriers-long _) own others
-              (all-barriers _ (barrier-full (lawful K) G A m reg B f)))
+              ran-so (registers-it reg ∙ full-is s t c (syncs commands c) b (count commands c) got done fits (completes-is (lawful K) G A m reg B ∙ f)) generation
+              (go (syncs commands c))
             where
-              now : (u : ℕ) → getD (released (b + 1) (s .waits)) u 0 ≡ letGo (b + 1) (waiting s u)
-              now u = getD-released (b + 1) (s .waits) u (λ e. omega arith)
-
-              own : WaitIs P H (t ∷ υ) t (getD (released (b + 1) (s .waits)) t 0)
-              own = rw (now t ∙ ap (letGo (b + 1)) (waits-not K S st), ne-eqb 0 (b + 1) (λ e. omega arith)) (wait-gone (lawful K) (S .legal) st m (λ _. f))
-
-              others : (u : ℕ) → u < length lengths → t ≢ u → WaitIs P H (t ∷ υ) u (getD (released (b + 1) (s .waits)) u 0)
-              others u l n =
-                  by-cases (ℕ-discrete (waiting s u) (b + 1))
-                  (λ (e : waiting s u ≡ b + 1). rw (now u, eq-eqb _ _ e) (wait-freed (lawful K) (S .legal) st m n reg f e (S .tie .wait u l)))
-                  (λ (d : waiting s u ≢ b + 1).
-                  let kept : (a : ℕ) → waiting s u ≡ a + 1 → next P σ c .done a ≡ σ .done a = λ a w. done-kept P σ c a (λ r q. absurd (omega arith)) in
-                  rw (now u, ne-eqb _ _ d) (wait-other (lawful K) (S .legal) st m n kept (S .tie .wait u l)))
+              go : (y : Bool) → Stands K (t ∷ υ) (freed (step.entered s t y b (unset (v .done + 1))) b)
+              go true =
+                  let-go-so f (set (s .waits) t (b + 1)) (length-set (s .waits) t (b + 1) ∙ S .tie .waits-long)
+                  (rw (getD-set-same (s .waits) t (b + 1) 0 (omega (arith, few, S .tie .waits-long)), eq-eqb (b + 1) (b + 1) refl))
+                  (λ u n. getD-set-other (s .waits) t u (b + 1) 0 (λ e. n (sym e)))
+              go false =
+                  let-go-so f (s .waits) (S .tie .waits-long) (rw (waits-not K S st, ne-eqb 0 (b + 1) (λ e. omega arith))) (λ u n. refl)
 
           part : completes P σ c ≡ false → Outcome υ s t
           part f =
-              ran-so (registers-it reg ∙ more-is s t c (syncs commands c) b (count commands c) fits (completes-is (lawful K) G A m reg B ∙ f)) generation
+              ran-so (registers-it reg ∙ more-is s t c (syncs commands c) b (count commands c) got done fits (completes-is (lawful K) G A m reg B ∙ f)) generation
               (go (syncs commands c) refl)
             where
               v′ : Barrier
@@ -224,7 +246,7 @@ module _ {commands lengths : List ℕ} (K : Keeps commands lengths) where
               bars : (a : ℕ) → a < barriers → BarrierIs P (next P σ c) a (getD (set (s .barriers) b v′) a (unset 0))
               bars = all-barriers v′ (barrier-more (lawful K) G A m reg B f)
 
-              go : (y : Bool) → syncs commands c ≡ y → Stands K (t ∷ υ) (step.blockedIf y (advanced (stored s b v′) t) t b)
+              go : (y : Bool) → syncs commands c ≡ y → Stands K (t ∷ υ) (step.entered s t y b v′)
               go false y = tied (s .waits) _ (S .tie .waits-long) (barriers-long v′) (own-gone (λ z. clashing z y)) (as-before kept) bars
               go true y =
                   tied (set (s .waits) t (b + 1)) _ (length-set (s .waits) t (b + 1) ∙ S .tie .waits-long) (barriers-long v′)

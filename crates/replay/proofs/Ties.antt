@@ -1,5 +1,5 @@
 -- The kept replay state and the machine's state after the same steps: what each says of the other. Assumes nothing.
-use mathlib.Core.Path.{_≡_}
+use mathlib.Core.Path.{_≡_, sym, _∙_}
 use mathlib.Core.Logic.{by-cases, _≢_}
 use mathlib.Core.Bool.{true, false}
 use mathlib.Core.List.{List, []}
@@ -11,17 +11,21 @@ use lib.ListN.{length, getD, replicate, length-replicate, getD-replicate}
 use borrow.Author.Tests.{ltb-true, lt-ltb, eqb-true, eqb-false, eq-eqb, not-true, not-false}
 use Rattle.tables.specs.Limits.{mostRows, mostThreads, barriers}
 use Rattle.tables.specs.Rows.{rows, threadOf}
-use Rattle.tables.specs.Rules.{Keeps}
+use Rattle.rules.specs.Rules.{Keeps}
 use Rattle.relation.proofs.Truth.{same-test, both, pair}
 use Rattle.schedules.specs.Machine.{Program, registered, member, state}
 use Rattle.schedules.specs.Threads.{Threads, at, after, Blocked, Steps, Legal}
 use Rattle.schedules.proofs.Tally.{tally-most}
 use Rattle.schedules.proofs.Threads.{stand, may, good-after}
-use Rattle.turns.specs.Turns.{mayStep}
-use Rattle.replay.specs.declared.state.Replay.{Replay}
-use Rattle.replay.specs.State.{start, ranSoFar, waiting, barrierAt}
-use Rattle.replay.specs.Step.{allowed, command, Counts}
-use Rattle.replay.specs.Ending.{isBlocked, barrierSet, Ends}
+use Rattle.turns.specs.Turns.{held, mayStep}
+use Rattle.turns.proofs.Turns.{left-is}
+use Rattle.steps.specs.declared.state.Replay.{Replay}
+use Rattle.turns.specs.Counting.{top}
+use Rattle.steps.specs.Barrier.{soFar}
+use Rattle.steps.specs.State.{start, ranSoFar, waiting, barrierAt}
+use Rattle.steps.specs.Step.{allowed, command}
+use Rattle.steps.specs.Ending.{isBlocked, barrierSet}
+use Rattle.steps.proofs.Changing as changing
 use Rattle.replay.specs.Program.{program}
 use Rattle.replay.proofs.Programs.{lawful, named, threads}
 use Rattle.replay.proofs.Phases.{BarrierIs, barrier-start, so-far, unset-none, none-unset, none-registered}
@@ -79,13 +83,10 @@ module _ {commands lengths : List ℕ} (K : Keeps commands lengths) where
     command-is = S .tie .command
 
     pub allowed-steps : (t : ℕ) → allowed lengths s t ≡ true → Steps P H υ t
-    unfolding allowed mayStep
     allowed-steps t e =
-        let (a, f) = both (ltb t (length lengths)) _ e in
-        let (b, c) = both (ltb (ranSoFar s t) (getD lengths t 0)) _ f in
-        let l : t < length lengths = ltb-true _ _ a in
-        let more : ranSoFar s t < getD lengths t 0 = ltb-true _ _ b in
-        record { exists = l; left = omega (arith, command-is t l); free = S .tie .wait t l .free (eqb-true _ _ c) }
+        let m = changing.may commands lengths s t e in
+        let l = m .left .there in
+        record { exists = l; left = omega (arith, m .left .left, command-is t l); free = S .tie .wait t l .free (m .free) }
 
     -- what may step does not wait
     pub waits-not : {t : ℕ} → Steps P H υ t → waiting s t ≡ 0
@@ -97,7 +98,8 @@ module _ {commands lengths : List ℕ} (K : Keeps commands lengths) where
     unfolding allowed mayStep
     steps-allowed t st =
         let more : ranSoFar s t < getD lengths t 0 = omega (arith, command-is t (st .exists)) in
-        pair _ _ (lt-ltb _ _ (st .exists)) (pair _ _ (lt-ltb _ _ more) (eq-eqb _ _ (waits-not st)))
+        let few : t < mostThreads = omega (arith, st .exists, K .few-threads) in
+        pair _ _ (sym (left-is lengths t (ranSoFar s t) few (st .exists)) ∙ lt-ltb _ _ more) (eq-eqb _ _ (waits-not st))
 
     pub command-row : (t : ℕ) → Steps P H υ t → at P H υ t < rows commands
     command-row t st = may H (stand H υ (S .legal)) st .low
@@ -105,9 +107,11 @@ module _ {commands lengths : List ℕ} (K : Keeps commands lengths) where
     -- ---- what the state tells of threads, barriers and commands
 
     pub blocked-is : (t : ℕ) → t < length lengths → (isBlocked s t ≡ true → Blocked P H υ t) × (isBlocked s t ≡ false → ¬ Blocked P H υ t)
+    unfolding held
     blocked-is t l =
         let w = S .tie .wait t l in
-        (λ e. held-blocked (w .held (eqb-false _ _ (not-true _ e))), λ e. w .free (eqb-true _ _ (not-false _ e)))
+        let few : t < mostThreads = omega (arith, l, K .few-threads) in
+        (λ e. held-blocked (w .held (eqb-false _ _ (not-true _ (both (ltb t mostThreads) _ e .1)))), λ e. w .free (eqb-true _ _ (not-false _ (rw (lt-ltb t mostThreads few) at e))))
 
     pub unset-is : (b : ℕ) → b < barriers
         → (barrierSet s b ≡ false → registered P (after P H υ) b (suc (after P H υ .done b)) ≡ 0)
@@ -121,24 +125,13 @@ module _ {commands lengths : List ℕ} (K : Keeps commands lengths) where
         let n = command lengths s (threadOf lengths c) in
         same-test _ _ (λ e. R .ahead c l (omega (arith, ltb-true c n e, is))) (λ e. lt-ltb c n (omega (arith, R .behind c l e, is)))
 
-    -- ---- how large its numbers are
+    -- ---- its counters stay small: no test would ever find one at its largest
 
-    pub counts : Counts s
+    pub few-got : (b : ℕ) → b < barriers → soFar (barrierAt s b .phase) < top
     unfolding registered mostRows
-    counts b l =
-        let B = S .tie .barrier b l in
-        record {
-          got = omega (arith, so-far (B .phase), tally-most (rows commands) (member P (after P H υ) b (suc (after P H υ .done b))));
-          done = omega (arith, done-few K υ b, legal-few K υ (S .legal));
-        }
+    few-got b l =
+        omega (arith, so-far (S .tie .barrier b l .phase), tally-most (rows commands) (member P (after P H υ) b (suc (after P H υ .done b))), K .few-rows)
 
-    pub ends : Ends lengths s
-    ends =
-        record {
-          few-threads = K .few-threads;
-          few-rows = omega arith;
-          has-run =
-              λ t l e.
-              let h = S .tie .wait t l .held (eqb-false _ _ (not-true _ e)) in
-              omega (arith, command-is t l);
-        }
+    pub few-done : (b : ℕ) → b < barriers → barrierAt s b .done < top
+    unfolding mostRows
+    few-done b l = omega (arith, S .tie .barrier b l .done, done-few K υ b, legal-few K υ (S .legal), K .few-rows)

@@ -1,4 +1,4 @@
--- The schedule of a choice that lets an allowed thread step where there is one is legal and complete, and the loop that writes it fills the room with it. Assumes nothing.
+-- The schedule of a choice that lets an allowed thread step where there is one is legal and complete. Assumes nothing.
 use mathlib.Core.Path.{_≡_, refl, sym, ap, _∙_, subst}
 use mathlib.Core.Logic.{⊎-elim, _≢_}
 use mathlib.Core.Bool.{Bool, true, false, cond}
@@ -11,24 +11,24 @@ use lib.ListN.{length, set, drop, length-append, length-drop}
 use lib.Seq.{set-at, drop-cons}
 use borrow.Author.Tests.{lt-ltb, le-ltb}
 use Rattle.tables.specs.Rows.{rows}
-use Rattle.tables.specs.Rules.{Keeps}
+use Rattle.rules.specs.Rules.{Keeps}
 use Rattle.tables.proofs.Lowest.{lowest-first, lowest-hit, lowest-miss}
 use Rattle.relation.proofs.Truth.{split, clashing, both}
 use Rattle.schedules.specs.Machine.{Program}
 use Rattle.schedules.specs.Threads as threads
-use Rattle.replay.specs.declared.state.Replay.{Replay}
-use Rattle.replay.specs.declared.step.Stepped.{Stepped}
-use Rattle.replay.specs.State.{start}
-use Rattle.replay.specs.Step.{allowed, stepped}
-use Rattle.replay.specs.Ending.{lowestAllowed}
+use Rattle.steps.specs.declared.state.Replay.{Replay}
+use Rattle.steps.specs.declared.step.Stepped.{Stepped}
+use Rattle.steps.specs.State.{start}
+use Rattle.steps.specs.Step.{allowed, stepped}
+use Rattle.steps.specs.Ending.{lowestAllowed}
 use Rattle.replay.specs.Program.{program}
-use Rattle.replay.specs.Writer.{goesOn, stepping, scheduleBy, schedule, FilledBy, picked, lowestPicked, pickedFirst}
+use Rattle.steps.specs.Writing.{goesOn, stepping, FilledBy, picked, lowestPicked, pickedFirst}
+use Rattle.replay.specs.Writer.{scheduleBy, schedule}
 use Rattle.replay.specs.Schedules.{Complete}
 use Rattle.replay.proofs.Programs as programs
 use Rattle.replay.proofs.Few.{steps-few}
 use Rattle.replay.proofs.Ties.{Stands, stands-start, allowed-steps, steps-allowed}
 use Rattle.replay.proofs.Tied.{Outcome, ran, mismatched, outcome}
-use Rattle.replay.proofs.Standing.{Standing, standing-start, standing-goes}
 use Rattle.replay.proofs.Schedules.{complete-from}
 
 -- a choice lets an allowed thread step, where there is one
@@ -121,84 +121,3 @@ module _ {commands lengths : List ℕ} (K : Keeps commands lengths) where
 
   pub first-complete : (early : ℕ → Bool) → Complete commands lengths (scheduleBy (pickedFirst early lengths) commands lengths)
   first-complete early = by-complete K (picked-chooses early lengths)
-
--- ---- the loop: after i steps the room has what they are, and the rest of the schedule is what is written from the state
-
-pub record Writing (choose : Replay → ℕ) (commands lengths before room : List ℕ) (s : Replay) (i : ℕ) : Type 0 where
-  pub chooses : Chooses lengths choose
-  pub standing : Standing commands lengths s
-  pub front : List ℕ
-  pub long : length front ≡ i
-  pub few : i ≤ rows commands
-  pub fits : rows commands ≤ length before
-  pub room-is : room ≡ front ++ drop i before
-  pub rest-is : scheduleBy choose commands lengths ≡ front ++ stepping choose commands lengths (rows commands - i) s
-
-module _ (choose : Replay → ℕ) (commands lengths before : List ℕ) where
-  pub writing-start : Chooses lengths choose → Keeps commands lengths → rows commands ≤ length before → Writing choose commands lengths before before start 0
-  unfolding scheduleBy
-  writing-start L K l =
-      let z : rows commands - 0 ≡ rows commands = omega arith in
-      record { chooses = L; standing = standing-start K; front = []; long = refl; few = omega arith; fits = l; room-is = refl; rest-is = rw z }
-
-  module _ {room : List ℕ} {s : Replay} {i : ℕ} (W : Writing choose commands lengths before room s i) where
-    -- the room is as long as it was
-    pub writing-long : length room ≡ length before
-    writing-long = omega (arith, ap length (W .room-is), length-append (W .front) (drop i before), length-drop i before, W .long, W .few, W .fits)
-
-    -- the thread that steps is one, or the number of threads
-    pub writing-thread : {t : ℕ} → t ≡ choose s → t ≤ length lengths
-    writing-thread e = omega (arith, W .chooses .at-most s)
-
-    filled : stepping choose commands lengths (rows commands - i) s ≡ [] → FilledBy (scheduleBy choose commands lengths) before room i
-    filled e =
-        let f : scheduleBy choose commands lengths ≡ W .front = W .rest-is ∙ ap (λ (l : List ℕ). W .front ++ l) e ∙ append-nil (W .front) in
-        record { long = sym (W .long) ∙ ap length (sym f); room = W .room-is ∙ ap (λ (l : List ℕ). l ++ drop i before) (sym f) }
-
-    -- no step is left to be written
-    pub writing-end : rows commands ≤ i → FilledBy (scheduleBy choose commands lengths) before room i
-    unfolding stepping
-    writing-end l = let z : rows commands - i ≡ 0 = omega arith in filled (rw z)
-
-    -- the next step
-    module _ (l : i < rows commands) (t : ℕ) (lowest : t ≡ choose s) where
-      left : rows commands - i ≡ suc (rows commands - (i + 1))
-      left = omega arith
-
-      -- no thread is allowed
-      pub writing-none : t ≡ length lengths → FilledBy (scheduleBy choose commands lengths) before room i
-      unfolding stepping
-      writing-none n = filled (rw (left, le-ltb (choose s) (length lengths) (omega arith)))
-
-      stored : set room i t ≡ (W .front ++ t ∷ []) ++ drop (i + 1) before
-      stored =
-          ap (λ (r : List ℕ). set r i t) (W .room-is ∙ ap (λ (r : List ℕ). W .front ++ r) (drop-cons before i 0 (omega (arith, W .fits))))
-          ∙ set-at (W .front) _ (drop (suc i) before) t i (W .long) ∙ rw add-one (sym (append-assoc (W .front) (t ∷ []) (drop (suc i) before)))
-
-      module _ (a : t ≢ length lengths) where
-        there : ltb (choose s) (length lengths) ≡ true
-        there = lt-ltb (choose s) (length lengths) (omega (arith, W .chooses .at-most s))
-
-        -- the step is written, and the schedule goes on
-        pub writing-more : (d : Stepped) → d ≡ stepped commands lengths s t → true ≡ goesOn (d .did) → Writing choose commands lengths before (set room i t) (d .after) (i + 1)
-        unfolding stepping
-        writing-more d e g =
-            let h : goesOn (stepped commands lengths s t .did) ≡ true = ap (λ (d : Stepped). goesOn (d .did)) (sym e) ∙ sym g in
-            record {
-              chooses = W .chooses;
-              standing = rw e (standing-goes (W .standing) t h);
-              front = W .front ++ t ∷ [];
-              long = omega (arith, length-append (W .front) (t ∷ []), W .long);
-              few = omega arith;
-              fits = W .fits;
-              room-is = stored;
-              rest-is = W .rest-is ∙ rw (left, there, sym lowest, h, e) (sym (append-assoc (W .front) (t ∷ []) _));
-            }
-
-        -- or it ends there
-        pub writing-last : (d : Stepped) → d ≡ stepped commands lengths s t → false ≡ goesOn (d .did) → FilledBy (scheduleBy choose commands lengths) before (set room i t) (i + 1)
-        unfolding stepping
-        writing-last d e g =
-            let h : goesOn (stepped commands lengths s t .did) ≡ false = ap (λ (d : Stepped). goesOn (d .did)) (sym e) ∙ sym g in
-            let f : scheduleBy choose commands lengths ≡ W .front ++ t ∷ [] = W .rest-is ∙ rw (left, there, sym lowest, h) in
-            record { long = omega (arith, length-append (W .front) (t ∷ []), W .long, ap length f); room = stored ∙ ap (λ (r : List ℕ). r ++ drop (i + 1) before) (sym f) }

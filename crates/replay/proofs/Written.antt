@@ -1,27 +1,32 @@
 -- What the two writers write, of what the one behind them does. Assumes nothing.
-use mathlib.Core.Path.{_≡_, refl, sym, ap, _∙_, subst}
+use mathlib.Core.Path.{_≡_, refl, sym, ap, ap₂, _∙_, subst}
 use mathlib.Core.Logic.{by-cases}
 use mathlib.Core.Bool.{Bool, false}
-use mathlib.Core.List.{List, []}
+use mathlib.Core.List.{List, [], _++_, append-assoc}
 use Prim.Native.Nat.{ℕ, min, _≤_, _<_}
 use native.Mathlib.Decide.{decLt}
 use native.Mathlib.Omega.{arith}
 use lib.Dec.{leb, ltb}
-use lib.ListN.{length}
+use lib.ListN.{length, take, drop, take-append-drop}
+use lib.Seq.{length-take-le, drop-append-le}
 use borrow.Author.Tests.{le-ltb}
 use Rattle.tables.specs.Limits.{mostRows}
 use Rattle.tables.specs.Rows.{rows}
-use Rattle.tables.specs.Rules.{Keeps}
+use Rattle.rules.specs.Rules.{Keeps}
 use Rattle.verdicts.specs.Verdicts.{numbered}
 use Rattle.verdicts.specs.declared.Told.{Told}
 use Rattle.relation.specs.Table.{words, inside, related}
 use Rattle.relation.proofs.Truth.{clashing, both, isnt}
 use Rattle.turns.specs.Turns.{goesFirst}
 use Rattle.replay.specs.declared.writer.Written.{Written}
-use Rattle.replay.specs.Writer.{schedule, firstSchedule, apartFrom, PutsApart, FilledBy}
+use Rattle.replay.specs.Writer.{scheduleBy, schedule, firstSchedule, apartFrom, PutsApart}
+use Rattle.steps.specs.declared.state.Replay.{Replay}
+use Rattle.steps.specs.State.{start}
+use Rattle.steps.specs.Writing.{pickedFirst, writes, FilledBy}
 use Rattle.replay.specs.Doors.{WritesBy, WritesSchedule, WritesApart}
 use Rattle.replay.specs.Schedules.{Complete}
 use Rattle.replay.proofs.Refusals.{unwritten-keeps}
+use Rattle.replay.proofs.Places.{stepping-few}
 use Rattle.replay.proofs.Picking.{picks-lowest, nothing-first, schedule-alike, first-alike}
 
 -- what is no command reaches nothing
@@ -40,6 +45,25 @@ unfolding apartFrom
 few-apart relation m c d x l {a} e =
     by-cases (decLt c m) (λ (h : c < m). let q : a ≡ c = omega arith in rw q)
     (λ (n : ¬ (c < m)). rw (no-row relation m a x (omega arith), no-row relation m c x (omega arith)))
+
+-- the schedule is written into the first M places of a room that has them
+pub wrote-first : (early : List Bool) (commands lengths before : List ℕ) {now : List ℕ} {s : Replay} {n : ℕ} → s ≡ start → rows commands ≤ length before
+    → FilledBy (writes early commands lengths (length (take (rows commands) before)) s) (take (rows commands) before) now n
+    → FilledBy (firstSchedule early commands lengths) before (now ++ drop (rows commands) before) n
+unfolding scheduleBy
+wrote-first early commands lengths before {now} {s} {n} e l F =
+    let m = rows commands in
+    let long : length (take m before) ≡ m = length-take-le m before l in
+    let σ = writes early commands lengths m start in
+    let is : writes early commands lengths (length (take m before)) s ≡ σ = ap₂ (λ (k : ℕ) (s : Replay). writes early commands lengths k s) long e in
+    let few : n ≤ length (take m before) = omega (arith, F .long, ap length is, long, stepping-few commands lengths (pickedFirst (goesFirst early) lengths) m start) in
+    let back : drop n (take m before) ++ drop m before ≡ drop n before = sym (drop-append-le n (take m before) (drop m before) few) ∙ ap (drop n) (take-append-drop m before) in
+    record {
+      long = F .long ∙ ap length is;
+      room =
+          ap (λ (r : List ℕ). r ++ drop m before) (F .room ∙ ap (λ (l : List ℕ). l ++ drop n (take m before)) is)
+          ∙ append-assoc σ (drop n (take m before)) (drop m before) ∙ ap (λ (l : List ℕ). σ ++ l) back;
+    }
 
 module _ {commands lengths before after : List ℕ} {r : Written} where
   -- schedules that are the same for tables that pass

@@ -1,27 +1,23 @@
 -- What the doors promise: the judge of a schedule, and the two schedule writers.
 use mathlib.Core.Path.{_≡_}
-use mathlib.Core.Bool.{cond}
 use mathlib.Core.List.{List}
 use Prim.Native.Nat.{ℕ}
-use lib.Dec.{eqb}
-use lib.ListN.{length, replicate}
-use Rattle.tables.specs.Limits.{mostRows}
+use lib.ListN.{length}
 use Rattle.tables.specs.Rows.{rows}
-use Rattle.tables.specs.Rules.{checked}
 use Rattle.verdicts.specs.Verdicts.{numbered}
 use Rattle.relation.specs.Table.{related}
+use Rattle.steps.specs.Going.{played}
+use Rattle.steps.specs.Ending.{judged}
+use Rattle.steps.specs.Writing.{FilledBy}
 use Rattle.replay.specs.declared.offered.Judged.{Judged}
 use Rattle.replay.specs.declared.writer.Written.{Written}
-use Rattle.replay.specs.InOrder.{orElse}
-use Rattle.replay.specs.Replay.{played}
-use Rattle.replay.specs.Ending.{judged}
-use Rattle.replay.specs.Writer.{schedule, apartSchedule, unwritten, FilledBy}
+use Rattle.replay.specs.Writer.{schedule, apartSchedule, unwritten}
 use Rattle.replay.specs.Schedules.{Complete}
 
--- The judge: 1 to 3, then 5 to 9, or 0; and the generations of the commands that ran, where the tables pass.
+-- The judge: 5 to 9, or 0; and the generations of the commands that ran.
 pub record Replays (commands lengths schedule : List ℕ) (r : Judged) : Type 0 where
-  pub verdict : numbered (r .verdict) ≡ orElse (checked commands lengths) (judged lengths (played commands lengths schedule))
-  pub generations : r .generations ≡ cond (eqb (checked commands lengths .number) 0) (played commands lengths schedule .generations) (replicate mostRows 0)
+  pub verdict : numbered (r .verdict) ≡ judged lengths (played commands lengths schedule)
+  pub generations : r .generations ≡ played commands lengths schedule .generations
 
 -- A schedule writer: 1 to 4 and the room as it was, or the schedule, which is legal and complete, and its length.
 pub record WritesBy (σ commands lengths before after : List ℕ) (r : Written) : Type 0 where

@@ -4,9 +4,9 @@ use mathlib.Core.List.{List}
 use Prim.Native.Nat.{ℕ}
 use Rattle.tables.specs.Rows.{rows, name, count, isFirst}
 use Rattle.schedules.specs.Machine.{Program}
-use Rattle.replay.specs.declared.barrier.Phase.the-variants.{Expecting}
-use Rattle.replay.specs.Barrier.{refuses}
-use Rattle.replay.specs.Step.{registers, syncs}
+use Rattle.steps.specs.declared.barrier.Phase.the-variants.{Expecting}
+use Rattle.steps.specs.Barrier.{refuses}
+use Rattle.steps.specs.Step.{registers, syncs}
 
 -- d may not register where c alone has
 abbrev pub clash : List ℕ → ℕ → ℕ → Bool

@@ -9,10 +9,10 @@ use lib.ListN.{length, take}
 use Rattle.tables.specs.Limits.{barriers}
 use Rattle.tables.specs.Rows.{rows, threadOf}
 use Rattle.verdicts.specs.declared.Verdict.the-variants as verdict
-use Rattle.replay.specs.declared.state.Replay.{Replay}
-use Rattle.replay.specs.Step.{allowed, command}
-use Rattle.replay.specs.Ending.{isBlocked, barrierSet}
-use Rattle.replay.specs.Replay.{played, generation}
+use Rattle.steps.specs.declared.state.Replay.{Replay}
+use Rattle.steps.specs.Step.{allowed, command}
+use Rattle.steps.specs.Ending.{isBlocked, barrierSet}
+use Rattle.steps.specs.Going.{played, generation}
 
 module _ (commands lengths : List ℕ) where
   -- the state that a schedule leads to

@@ -4,15 +4,14 @@ ghost use Prim.Native.Nat.{_≤_, min};
 ghost use lib.ListN.{length};
 ghost use Rattle.tables.specs.Limits.{mostRows};
 ghost use Rattle.relation.specs.Table.{related};
-ghost use Rattle.replay.specs.Writer.{goesOn, firstSchedule, Fits, FilledBy, PutsApart};
+ghost use Rattle.replay.specs.Writer.{firstSchedule, PutsApart};
 ghost use Rattle.replay.specs.Doors.{WritesBy, WritesSchedule, WritesApart};
-use crate::state::Replay;
-use crate::step::Did;
-use crate::step::How;
 use relation::related;
+use rooms::short_room;
+use rules::check_tables;
+use steps::Replay;
+use steps::write_on;
 use tables::Table;
-use tables::check_tables;
-use turns::choose;
 use verdicts::Verdict;
 
 // 1 to 4, or 0 and the length of the schedule that was written.
@@ -21,59 +20,25 @@ pub struct Written {
     pub length: usize,
 }
 
-// Does a step's answer let a schedule go on?
-fn goes_on(did: Did) -> bool
-    ensures { λ r. ⌜ r ≡ goesOn did ⌝ }
-{
-    let Did::Took(how) = did else {
-        return false;
-    };
-    match how {
-        How::Mismatch(_) => false,
-        How::Ran(_, _) => true,
-    }
-}
-
-// The schedule in which the commands of a list go first, into the room, and its length. No schedule has more than M steps.
-fn write(commands: &[u32], lengths: &[u32], early: &[bool], room: &mut [u32]) -> usize
-    requires { ⌜ Fits (now commands) (now lengths) (now room) ⌝ }
-    ensures { λ r. ⌜ FilledBy (firstSchedule (now (early .entry)) (now (commands .entry)) (now (lengths .entry))) (now (room .entry)) (now (room .exit)) r ⌝ }
-{
-    let m = commands.len() / 3;
-    let mut state = Replay::start();
-    let mut steps = 0;
-    while steps < m {
-        let t = choose(lengths, &state.next, &state.waits, early);
-        if t == lengths.len() {
-            return steps;
-        }
-        room[steps] = t as u32;
-        steps += 1;
-        let stepped = state.step(commands, lengths, t);
-        state = stepped.after;
-        let did = stepped.did;
-        if !goes_on(did) {
-            return steps;
-        }
-    }
-    steps
-}
-
-// The same for any tables and any room: refusals 1 to 4 come first.
+// The schedule in which the commands of a list go first, into the room, and its length: refusals 1 to 4 come first. No schedule has more than M steps.
 fn write_first(commands: &[u32], lengths: &[u32], early: &[bool], room: &mut [u32]) -> Written
-    ensures { λ r. ⌜ WritesBy (firstSchedule (now (early .entry)) (now (commands .entry)) (now (lengths .entry))) (now (commands .entry)) (now (lengths .entry)) (now (room .entry)) (now (room .exit)) r ⌝ }
+    ensures { λ r. ⌜ WritesBy
+        (firstSchedule (now (early .entry)) (now (commands .entry)) (now (lengths .entry)))
+        (now (commands .entry)) (now (lengths .entry)) (now (room .entry)) (now (room .exit)) r ⌝ }
 {
     let verdict = check_tables(commands, lengths);
     if verdict.number().number != 0 {
         return Written { verdict, length: 0 };
     }
-    if room.len() < commands.len() / 3 {
+    let m = commands.len() / 3;
+    let short = short_room(&[[2, m, room.len()]]);
+    if short.number().number != 0 {
         return Written {
-            verdict: Verdict::ShortRoom(2),
+            verdict: short,
             length: 0,
         };
     }
-    let length = write(commands, lengths, early, room);
+    let length = write_on(Replay::start(), commands, lengths, early, &mut room[..m]);
     Written {
         verdict: Verdict::Clean,
         length,

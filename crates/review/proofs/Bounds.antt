@@ -1,29 +1,29 @@
 -- How large the numbers of a review's answer are, and what is told in rooms for the longest tables. Assumes nothing.
-use mathlib.Core.Path.{_≡_, refl, sym, _∙_, subst}
-use mathlib.Core.Logic.{_⊎_, inl, inr, by-cases, ⊎-elim, _≢_}
-use mathlib.Core.Bool.{Bool, true, false, cond}
+use mathlib.Core.Path.{_≡_, sym, _∙_, subst}
+use mathlib.Core.Logic.{by-cases, ⊎-elim, _≢_}
+use mathlib.Core.Bool.{Bool, true, false}
 use mathlib.Core.List.{List, [], _∷_}
 use Prim.Native.Nat.{ℕ, zero, suc, _*_, _≤_, _<_}
 use native.Mathlib.Decide.{ℕ-discrete}
 use native.Mathlib.Nat.{mul-le-mul}
 use native.Mathlib.Omega.{arith}
-use lib.Dec.{ltb}
 use lib.ListN.{length, getD}
-use borrow.Author.Tests.{le-ltb}
 use Rattle.tables.specs.Limits.{mostRows}
 use Rattle.tables.specs.Rows.{rows}
-use Rattle.tables.specs.Rules.{Keeps, checked}
+use Rattle.rules.specs.Rules.{Keeps, checked}
 use Rattle.verdicts.specs.Verdicts.{tell, numbered}
+use Rattle.verdicts.specs.Numbers.{fills, isVerdict, isComplete}
 use Rattle.verdicts.specs.declared.Told.{Told}
 use Rattle.verdicts.specs.declared.Verdict.{Verdict}
-use Rattle.tables.proofs.Rules.{passes-zero}
+use Rattle.verdicts.proofs.Numbers.{refusal-unfilled, refusal-verdict, ending-verdict, fills-verdict, unclean-complete, fills-complete}
+use Rattle.rules.proofs.Rules.{passes-zero}
 use Rattle.relation.specs.Table.{width, words}
 use Rattle.relation.proofs.Truth.{clashing, split}
-use Rattle.replay.specs.InOrder.{orElse}
-use Rattle.replay.specs.Replay.{played}
-use Rattle.replay.specs.Ending.{judged}
-use Rattle.replay.proofs.Refusals.{or-first, or-second, or-either}
-use Rattle.replay.proofs.Judged.{judged-small}
+use Rattle.verdicts.specs.InOrder.{orElse}
+use Rattle.steps.specs.Going.{played}
+use Rattle.steps.specs.Ending.{judged}
+use Rattle.verdicts.proofs.InOrder.{or-first, or-second, or-either}
+use Rattle.replay.proofs.Judged.{judged-ending}
 use Rattle.replay.proofs.Places.{Placed, placed, checked-placed, judged-placed, complete-told}
 use Rattle.replay.specs.Schedules.{Complete}
 use Rattle.sheet.specs.declared.Pair.{Pair}
@@ -33,14 +33,14 @@ use Rattle.faults.specs.declared.faults.Fault.the-variants.{Reuse, Race}
 use Rattle.findings.specs.declared.finding.Finding.{Finding}
 use Rattle.faults.specs.Faults.{pairOf, faults}
 use Rattle.sheet.specs.Sheet.{mostKept, pair, firsts, sheetOf}
-use Rattle.rooms.specs.Refusals.{shortRooms, refused}
+use Rattle.rooms.specs.Refusals.{refused}
 use Rattle.findings.specs.Findings.{firstPair, orPairs, faultTold, faultPairs}
-use Rattle.review.specs.Judge.{generations, reaches, verdictOf, fills}
+use Rattle.review.specs.Judge.{generations, reaches, verdictOf}
 use Rattle.review.specs.Agreement.{number, Reviewed}
-use Rattle.rooms.proofs.Refusals.{admitted, refused-small}
+use Rattle.rooms.proofs.Refusals.{admitted, refused-tables, refused-none, refused-either}
 use Rattle.faults.proofs.Searched.{faults-few}
 use Rattle.faults.proofs.Pairs.{in-order}
-use Rattle.review.proofs.Reviews.{no-fill, fault-small}
+use Rattle.review.proofs.Reviews.{refused-refusal, fault-fills}
 
 -- ---- pairs: no number is above the limit of rows
 
@@ -99,14 +99,18 @@ some-rows : 1 ≤ mostRows
 unfolding mostRows
 some-rows = omega arith
 
-short-placed : (a b : Bool) → Placed (cond a (tell 4 0 0) (cond b (tell 4 1 0) (tell 0 0 0)))
-short-placed true b = placed 4 0 (omega arith)
-short-placed false true = placed 4 1 some-rows
-short-placed false false = placed 0 0 (omega arith)
-
 module _ (commands lengths σ : List ℕ) (relation room : ℕ) where
   abbrev told : Told
   told = verdictOf commands lengths σ relation room
+
+  abbrev refusal : Told
+  refusal = refused commands lengths relation room
+
+  abbrev ending : Told
+  ending = judged lengths (played commands lengths σ)
+
+  abbrev faulty : Told
+  faulty = faultTold commands lengths (generations commands lengths σ) (reaches commands lengths σ)
 
   abbrev found : Fault → List Pair
   found = faults commands lengths (generations commands lengths σ) (reaches commands lengths σ)
@@ -115,18 +119,13 @@ module _ (commands lengths σ : List ℕ) (relation room : ℕ) where
   pairs = faultPairs commands lengths (generations commands lengths σ) (reaches commands lengths σ)
 
   -- it is a refusal, or is told of tables that pass
-  told-either : (P : Told → Type 0) → P (refused commands lengths relation room) → (Keeps commands lengths → P (judged lengths (played commands lengths σ)))
-      → (Keeps commands lengths → P (faultTold commands lengths (generations commands lengths σ) (reaches commands lengths σ))) → P told
+  told-either : (P : Told → Type 0) → P refusal → (Keeps commands lengths → P ending) → (Keeps commands lengths → P faulty) → P told
   unfolding verdictOf
-  told-either P r j f =
-      or-either P (refused commands lengths relation room) _ r
-      (λ z. let K = admitted commands lengths relation room z .keeps in or-either P (judged lengths (played commands lengths σ)) _ (j K) (λ _. f K))
+  told-either P r j f = or-either P refusal _ r (λ z. let K = admitted commands lengths relation room z .keeps in or-either P ending _ (j K) (λ _. f K))
 
-  pub refused-placed : Placed (refused commands lengths relation room)
-  unfolding refused
+  pub refused-placed : Placed refusal
   refused-placed =
-      or-either Placed (checked commands lengths) _ (checked-placed commands lengths)
-      (λ _. short-placed (ltb relation (words (rows commands))) (ltb room (rows commands)))
+      refused-either commands lengths relation room Placed (checked-placed commands lengths) (placed 4 0 (omega arith)) (placed 4 1 some-rows) (placed 0 0 (omega arith))
 
   told-placed : Placed told
   told-placed = told-either Placed refused-placed (λ K. judged-placed K σ) (λ K. fault-placed K _ _)
@@ -137,21 +136,22 @@ module _ (commands lengths σ : List ℕ) (relation room : ℕ) where
   pub also-small : told .also ≤ mostRows
   also-small = told-placed .also
 
-  pub number-small : told .number ≤ 11
-  number-small =
-      told-either (λ t. t .number ≤ 11) (omega (arith, refused-small commands lengths relation room)) (λ K. omega (arith, judged-small K σ))
-      (λ K. fault-small (found Reuse) (found Race))
+  pub number-verdict : isVerdict (told .number) ≡ true
+  number-verdict =
+      told-either (λ t. isVerdict (t .number) ≡ true)
+      (by-cases (ℕ-discrete (refusal .number) 0) (λ (e : refusal .number ≡ 0). rw e)
+      (λ (n : refusal .number ≢ 0). refusal-verdict (refusal .number) (refused-refusal commands lengths relation room n)))
+      (λ K. ending-verdict (ending .number) (judged-ending K σ))
+      (λ K. fills-verdict (faulty .number) (fault-fills (found Reuse) (found Race)))
 
   -- what fills the rooms is told of tables that pass
   pub filled-keeps : fills (told .number) ≡ true → Keeps commands lengths
   filled-keeps = told-either (λ t. fills (t .number) ≡ true → Keeps commands lengths) by (λ K _. K) (λ K _. K)
     where
-      by : fills (refused commands lengths relation room .number) ≡ true → Keeps commands lengths
+      by : fills (refusal .number) ≡ true → Keeps commands lengths
       by f =
-          by-cases (ℕ-discrete (refused commands lengths relation room .number) 0)
-          (λ (z : refused commands lengths relation room .number ≡ 0). admitted commands lengths relation room z .keeps)
-          (λ (n : refused commands lengths relation room .number ≢ 0).
-          clashing f (no-fill _ n (omega (arith, refused-small commands lengths relation room))))
+          by-cases (ℕ-discrete (refusal .number) 0) (λ (z : refusal .number ≡ 0). admitted commands lengths relation room z .keeps)
+          (λ (n : refusal .number ≢ 0). clashing f (refusal-unfilled (refusal .number) (refused-refusal commands lengths relation room n)))
 
   module _ (f : fills (told .number) ≡ true) where
     pairs-low : AllLow pairs
@@ -200,11 +200,6 @@ finding-small {commands} {lengths} {σ} {relation} {room} {r} R =
 
 -- ---- rooms for the longest tables
 
-fault-told : (ps qs : List Pair) → let n = firstPair 10 ps (firstPair 11 qs (tell 0 0 0)) .number in (n ≡ 0) ⊎ ((7 ≤ n) × (n ≤ 11))
-fault-told (p ∷ ps) qs = inr (omega arith, omega arith)
-fault-told [] (q ∷ qs) = inr (omega arith, omega arith)
-fault-told [] [] = inl refl
-
 words-most : (m : ℕ) → m ≤ mostRows → words m ≤ words mostRows
 unfolding width
 words-most m l = mul-le-mul l (omega arith)
@@ -212,17 +207,15 @@ words-most m l = mul-le-mul l (omega arith)
 module _ (commands lengths : List ℕ) where
   -- have room for all that pass
   pub full-rooms : checked commands lengths .number ≡ 0 → refused commands lengths (words mostRows) mostRows ≡ tell 0 0 0
-  unfolding refused
   full-rooms e =
       let few = passes-zero commands lengths e .few-rows in
-      sym (or-second (checked commands lengths) (shortRooms (rows commands) (words mostRows) mostRows) e)
-      ∙ rw (le-ltb _ _ (words-most (rows commands) few), le-ltb _ _ few)
+      sym (refused-none commands lengths (words mostRows) mostRows e (words-most (rows commands) few) few)
 
   -- where the check refuses tables, nothing else is told
   pub refused-checked : checked commands lengths .number ≢ 0 → (σ : List ℕ) (relation room : ℕ) → verdictOf commands lengths σ relation room ≡ checked commands lengths
-  unfolding verdictOf refused
+  unfolding verdictOf
   refused-checked n σ relation room =
-      let e = or-first (checked commands lengths) (shortRooms (rows commands) relation room) n in
+      let e = refused-tables commands lengths relation room n in
       rw (sym e) (sym (or-first (checked commands lengths) _ n))
 
   -- and tables that pass are judged by their schedule
@@ -234,14 +227,18 @@ module _ (commands lengths : List ℕ) where
 
   -- 7 to 11, or 0, where that is legal and complete
   pub complete-number : checked commands lengths .number ≡ 0 → (σ : List ℕ) → Complete commands lengths σ
-      → let n = verdictOf commands lengths σ (words mostRows) mostRows .number in (n ≡ 0) ⊎ ((7 ≤ n) × (n ≤ 11))
-  complete-number e σ c = rw (passed-told e σ) (or-either told₇ _ _ (⊎-elim inl (λ (h : (7 ≤ j) × (j ≤ 9)). inr (h .0, omega (arith, h .1))) (complete-told σ c)) (λ _. fault-told (found Reuse) (found Race)))
+      → isComplete (verdictOf commands lengths σ (words mostRows) mostRows .number) ≡ true
+  complete-number e σ c =
+      subst (λ (t : Told). isComplete (t .number) ≡ true) (sym (passed-told e σ))
+      (or-either (λ t. isComplete (t .number) ≡ true) j f
+      (⊎-elim (λ (z : j .number ≡ 0). rw z) (unclean-complete (j .number)) (complete-told σ c))
+      (λ _. fills-complete (f .number) (fault-fills (g Reuse) (g Race))))
     where
-      found : Fault → List Pair
-      found = faults commands lengths (generations commands lengths σ) (reaches commands lengths σ)
+      j : Told
+      j = judged lengths (played commands lengths σ)
 
-      j : ℕ
-      j = judged lengths (played commands lengths σ) .number
+      g : Fault → List Pair
+      g = faults commands lengths (generations commands lengths σ) (reaches commands lengths σ)
 
-      told₇ : Told → Type 0
-      told₇ t = (t .number ≡ 0) ⊎ ((7 ≤ t .number) × (t .number ≤ 11))
+      f : Told
+      f = faultTold commands lengths (generations commands lengths σ) (reaches commands lengths σ)

@@ -7,22 +7,25 @@ use native.Mathlib.Omega.{arith}
 use Rattle.tables.specs.Limits.{mostRows, mostThreads, addresses, barriers, mostCount}
 use Rattle.tables.specs.Rows.{total, firstRow, threadOf}
 use Rattle.tables.specs.Lowest.{lowest}
-use Rattle.tables.specs.Rules.{rowKeeps, firstBad, checked}
-use Rattle.turns.specs.Turns.{mayStep}
+use Rattle.rules.specs.Rules.{rowKeeps, firstBad, checked}
+use Rattle.turns.specs.Turns.{held, hasLeft, mayStep}
 use Rattle.relation.specs.Chains.{rounds}
 use Rattle.relation.specs.Table.{width}
 use Rattle.schedules.specs.Order.{edge, reach}
-use Rattle.replay.specs.State.{start}
-use Rattle.replay.specs.Step.{allowed, registering, running, stepped}
-use Rattle.replay.specs.Replay.{playing, played}
-use Rattle.replay.specs.Ending.{ended, judged}
+use Rattle.turns.specs.Counting.{counted}
+use Rattle.steps.specs.Barrier.{registration}
+use Rattle.steps.specs.State.{start}
+use Rattle.steps.specs.Step.{allowed, registering, running, stepped}
+use Rattle.steps.specs.Going.{oneOn, goOn, begun, played}
+use Rattle.steps.specs.Ending.{ended, judged}
 use Rattle.sheet.specs.Sheet.{sheetOf}
 use Rattle.faults.specs.Faults.{succeeds, reuse, conflict, race, alongRow, allRows, faults}
+use Rattle.rooms.specs.Short.{firstShort}
 use Rattle.rooms.specs.Refusals.{refused}
 use Rattle.findings.specs.Findings.{faultTold}
 use Rattle.verdicts.specs.Verdicts.{tell, numbered}
 use Rattle.verdicts.specs.declared.Told.{Told}
-use Rattle.replay.specs.InOrder.{orElse}
+use Rattle.verdicts.specs.InOrder.{orElse}
 use Rattle.review.specs.Judge.{verdictOf, generations, reaches}
 use Rattle.review.specs.Agreement.{Review, SameFile, Unrefused}
 use Rattle.review.specs.Examples.{examples, all, same, word, below, holds, fourSyncs, oneEach, TenDiffers}
@@ -30,8 +33,8 @@ use Rattle.review.specs.Examples.{examples, all, same, word, below, hold
 pub every : all holds examples ≡ true
 unfolding all holds examples same word below
     mostRows mostThreads addresses barriers mostCount total firstRow threadOf lowest rowKeeps firstBad checked
-    rounds width edge reach start mayStep allowed registering running stepped playing played ended sheetOf
-    succeeds reuse conflict race alongRow allRows faults refused judged verdictOf
+    rounds width edge reach counted registration start held hasLeft mayStep allowed registering running stepped oneOn goOn begun played ended sheetOf
+    succeeds reuse conflict race alongRow allRows faults firstShort refused judged verdictOf
 every = refl
 
 -- what the definitions tell of C, by two schedules
@@ -41,7 +44,7 @@ told σ =
     (faultTold fourSyncs oneEach (generations fourSyncs oneEach σ) (reaches fourSyncs oneEach σ))
 
 two-told : (told (0 ∷ 1 ∷ 2 ∷ 3 ∷ []) ≡ tell 10 0 2) × (told (0 ∷ 2 ∷ 1 ∷ 3 ∷ []) ≡ tell 10 0 1)
-unfolding mostRows mostThreads barriers total firstRow threadOf lowest start mayStep allowed registering running stepped playing played ended
+unfolding mostRows mostThreads barriers total firstRow threadOf lowest counted registration start held hasLeft mayStep allowed registering running stepped oneOn goOn begun played ended
     succeeds reuse alongRow allRows faults judged
 two-told = (refl, refl)
 

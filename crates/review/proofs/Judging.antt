@@ -3,17 +3,19 @@ use mathlib.Core.Path.{_≡_, refl, sym, ap, _∙_, subst}
 use mathlib.Core.Logic.{_⊎_, inl, inr, ⊎-elim, _↔_, _≢_}
 use mathlib.Core.Bool.{Bool, true, false, cond}
 use mathlib.Core.List.{List, [], _∷_, reverse, reverse-reverse}
-use Prim.Native.Nat.{ℕ, _-_, _≤_, _<_}
+use Prim.Native.Nat.{ℕ, _<_}
 use native.Mathlib.Omega.{arith}
 use lib.Dec.{ltb}
 use lib.ListN.{length}
 use Rattle.tables.specs.Limits.{barriers}
 use Rattle.tables.specs.Rows.{rows}
-use Rattle.tables.specs.Rules.{Keeps}
+use Rattle.rules.specs.Rules.{Keeps}
 use Rattle.verdicts.specs.Verdicts.{tell, numbered}
+use Rattle.verdicts.specs.Numbers.{settles, disagrees}
 use Rattle.verdicts.specs.declared.Told.{Told}
 use Rattle.verdicts.specs.declared.Verdict.{Verdict}
 use Rattle.verdicts.specs.declared.Verdict.the-variants as verdict
+use Rattle.verdicts.proofs.Numbers.{disagrees-unsettled}
 use Rattle.tables.proofs.Lowest.{lowest-hit}
 use Rattle.relation.proofs.Truth.{clashing}
 use Rattle.schedules.specs.Machine as machine
@@ -25,10 +27,10 @@ use Rattle.schedules.proofs.Tests.{not-matching}
 use Rattle.schedules.proofs.Theorems.{agreement, one-order, real, decided}
 use Rattle.sheet.specs.declared.Pair.{Pair}
 use Rattle.faults.specs.declared.faults.Fault.the-variants as fault
-use Rattle.replay.specs.Step.{allowed}
-use Rattle.replay.specs.Ending.{isBlocked, barrierSet, lowestAllowed, lowestBlocked, lowestSet, lastRun, ended, judged}
-use Rattle.replay.specs.InOrder.{orElse}
-use Rattle.replay.specs.Replay.{played}
+use Rattle.steps.specs.Step.{allowed}
+use Rattle.steps.specs.Ending.{isBlocked, barrierSet, lowestAllowed, lowestBlocked, lowestSet, lastRun, ended, judged}
+use Rattle.verdicts.specs.InOrder.{orElse}
+use Rattle.steps.specs.Going.{played}
 use Rattle.replay.specs.Program.{program}
 use Rattle.faults.specs.Faults.{conflict, race, faults}
 use Rattle.findings.specs.Findings.{firstPair, faultTold}
@@ -53,20 +55,19 @@ module _ {table lengths : List ℕ} (K : Keeps table lengths) (σ : List ℕ) wh
 
   -- ---- where the offered schedule is not legal and complete, or the schedules do not agree
 
-  judges-none : (n : ℕ) → ¬ (Complete table lengths σ × Agree table lengths) → n ≢ 0 → n ≢ 11 → (7 ≤ n → n ≤ 10 → Disagree table lengths) → Judges table lengths σ n
-  judges-none n nay a b d =
+  judges-none : (n : ℕ) → ¬ (Complete table lengths σ × Agree table lengths) → settles n ≡ false → (disagrees n ≡ true → Disagree table lengths) → Judges table lengths σ n
+  judges-none n nay f d =
       record {
-        agreement = (⊎-elim (λ e. absurd (a e)) (λ e. absurd (b e)), λ p. absurd (nay p));
-        order = ((λ e. absurd (a e)), λ p. absurd (nay (p .0, p .1)));
+        agreement = ((λ s. clashing s f), λ p. absurd (nay p));
+        order = ((λ e. clashing (ap settles e) f), λ p. absurd (nay (p .0, p .1)));
         disagreement = d;
       }
 
-  judges-incomplete : (n : ℕ) → ¬ Complete table lengths σ → n ≡ 5 ⊎ n ≡ 6 → Judges table lengths σ n
-  judges-incomplete n nay (inl e) = judges-none n (λ p. nay (p .0)) (λ z. omega arith) (λ z. omega arith) (λ l m. absurd (omega arith))
-  judges-incomplete n nay (inr e) = judges-none n (λ p. nay (p .0)) (λ z. omega arith) (λ z. omega arith) (λ l m. absurd (omega arith))
+  judges-incomplete : (n : ℕ) → ¬ Complete table lengths σ → settles n ≡ false → disagrees n ≡ false → Judges table lengths σ n
+  judges-incomplete n nay f g = judges-none n (λ p. nay (p .0)) f (λ d. clashing d g)
 
-  judges-disagree : (n : ℕ) → Disagree table lengths → 7 ≤ n → n ≤ 10 → Judges table lengths σ n
-  judges-disagree n d l m = judges-none n (λ p. disagreed K d (p .1)) (λ z. omega arith) (λ z. omega arith) (λ _ _. d)
+  judges-disagree : (n : ℕ) → Disagree table lengths → disagrees n ≡ true → Judges table lengths σ n
+  judges-disagree n d t = judges-none n (λ p. disagreed K d (p .1)) (disagrees-unsettled n t) (λ _. d)
 
   -- a schedule that ends at a mismatch is complete and not clean
   shows-mismatch : {υ : List ℕ} {t : ℕ} → threads.Legal P H υ → threads.Steps P H υ t → machine.Mismatch P (threads.after P H υ) (threads.at P H υ t) → Disagree table lengths
@@ -100,7 +101,7 @@ module _ {table lengths : List ℕ} (K : Keeps table lengths) (σ : List ℕ) wh
     judges-reuse : (c₁ c₂ : ℕ) → Reuse P g c₁ c₂ → Judges table lengths σ 10
     judges-reuse c₁ c₂ R =
         let (τ, c, off) = real (programs.lawful K) H (reverse σ) (clean-to K C) c₁ c₂ (reuse-same P same R) in
-        judges-disagree 10 (shows c off) (omega arith) (omega arith)
+        judges-disagree 10 (shows c off) refl
 
     -- no reuse fault
     module _ (none : faults table lengths g (reach P g) fault.Reuse ≡ []) where
@@ -112,7 +113,7 @@ module _ {table lengths : List ℕ} (K : Keeps table lengths) (σ : List ℕ) wh
                 ⊎-elim
                 (λ w.
                 let R = reuse-same P (λ c l. sym (same c l)) (w .2) in
-                clashing (reuse-is table lengths g K (w .0) (w .1) (R .succeeds .low₁) (R .succeeds .low₂) .1 R)
+                clashing (reuse-is table lengths g (w .0) (w .1) (R .succeeds .low₁) (R .succeeds .low₂) .1 R)
                 (no-faults table lengths g (reach P g) fault.Reuse none (w .1) (w .0) (R .succeeds .low₂) (R .succeeds .low₁)))
                 (λ N. N)
                 (decided P (threads.gens P H (reverse σ)));
@@ -137,18 +138,18 @@ module _ {table lengths : List ℕ} (K : Keeps table lengths) (σ : List ℕ) wh
           let (l, c, _, a, b) = race-is table lengths g x y lx ly .0 e in
           let ne : x ≢ y = λ q. omega arith in
           record {
-            agreement = ((λ _. (stopped (C .through) (C .stops), agree)), λ _. inr refl);
+            agreement = ((λ _. (stopped (C .through) (C .stops), agree)), λ _. refl);
             order = (
               (λ z. absurd (omega arith)),
               λ p. ⊎-elim (λ r. absurd (a r)) (λ r. absurd (b r)) (ordered x y lx ly ne c .0 (order-to K agree x y lx ly (p .2 x y lx ly ne c))),
             );
-            disagreement = λ l m. absurd (omega arith);
+            disagreement = λ d. clashing d refl;
           }
 
       judges-clear : faults table lengths g (reach P g) fault.Race ≡ [] → Judges table lengths σ 0
       judges-clear no-race =
           record {
-            agreement = ((λ _. (stopped (C .through) (C .stops), agree)), λ _. inl refl);
+            agreement = ((λ _. (stopped (C .through) (C .stops), agree)), λ _. refl);
             order = (
               (λ _. (
                 stopped (C .through) (C .stops),
@@ -157,7 +158,7 @@ module _ {table lengths : List ℕ} (K : Keeps table lengths) (σ : List ℕ) wh
               )),
               λ _. refl,
             );
-            disagreement = λ l m. absurd (omega arith);
+            disagreement = λ d. clashing d refl;
           }
 
     -- by the faults that are found
@@ -168,7 +169,7 @@ module _ {table lengths : List ℕ} (K : Keeps table lengths) (σ : List ℕ) wh
             → Judges table lengths σ (firstPair 10 ps (firstPair 11 qs (tell 0 0 0)) .number)
         by (p ∷ ps) qs e f =
             let (c₂, c₁, l₂, l₁, h, _) = some-fault table lengths g (reach P g) fault.Reuse e in
-            judges-reuse c₁ c₂ (reuse-is table lengths g K c₁ c₂ l₁ l₂ .0 h)
+            judges-reuse c₁ c₂ (reuse-is table lengths g c₁ c₂ l₁ l₂ .0 h)
         by [] (q ∷ qs) e f =
             let (x, y, lx, ly, h, _) = some-fault table lengths g (reach P g) fault.Race f in
             judges-race e x y lx ly h
@@ -192,17 +193,17 @@ module _ {table lengths : List ℕ} (K : Keeps table lengths) (σ : List ℕ) wh
         (orElse (cond a (tell 6 ((played table lengths σ) .steps) 0) (cond b (tell 8 (lastRun lengths (stateAfter table lengths σ) (lowestBlocked lengths (stateAfter table lengths σ))) 0) (cond d (tell 9 (lowestSet (stateAfter table lengths σ)) 0) (tell 0 0 0))))
         (faultTold table lengths (generations table lengths σ) (reaches table lengths σ)) .number)
     judges-through true b d ea eb ed =
-        judges-incomplete 6 (λ C. incomplete C (lowest-hit (allowed lengths (stateAfter table lengths σ)) (length lengths) ea .1)) (inr refl)
+        judges-incomplete 6 (λ C. incomplete C (lowest-hit (allowed lengths (stateAfter table lengths σ)) (length lengths) ea .1)) refl refl
       where
         incomplete : Complete table lengths σ → allowed lengths (stateAfter table lengths σ) (lowestAllowed lengths (stateAfter table lengths σ)) ≡ true → ⊥
         incomplete (stopped _ stop) h = clashing h (stop (lowestAllowed lengths (stateAfter table lengths σ)))
         incomplete (mismatched v _) h = unlike (sym c ∙ v) (λ z. omega arith)
     judges-through false true d ea eb ed =
         let (l, h) = lowest-hit (isBlocked (stateAfter table lengths σ)) (length lengths) eb in
-        judges-disagree 8 (unclean σ (stopped c (stops-by table lengths σ ea)) (λ C. clashing h (C .unblocked _ l))) (omega arith) (omega arith)
+        judges-disagree 8 (unclean σ (stopped c (stops-by table lengths σ ea)) (λ C. clashing h (C .unblocked _ l))) refl
     judges-through false false true ea eb ed =
         let (l, h) = lowest-hit (barrierSet (stateAfter table lengths σ)) barriers ed in
-        judges-disagree 9 (unclean σ (stopped c (stops-by table lengths σ ea)) (λ C. clashing h (C .unset _ l))) (omega arith) (omega arith)
+        judges-disagree 9 (unclean σ (stopped c (stops-by table lengths σ ea)) (λ C. clashing h (C .unset _ l))) refl
     judges-through false false false ea eb ed =
         judges-clean (clean-by table lengths σ c ea eb ed)
 
@@ -212,5 +213,5 @@ module _ {table lengths : List ℕ} (K : Keeps table lengths) (σ : List ℕ) wh
     where
       by : Ends K σ [] (played table lengths σ) 0 → Judges table lengths σ (told .number)
       by (through S G v e) = rw v (judges-through v _ _ _ refl refl refl)
-      by (refused-at e nay v) = rw v (judges-incomplete 5 (not-complete _ v (λ z. omega arith) (λ z. omega arith)) (inl refl))
-      by (mismatched-at e st m v) = rw v (judges-disagree 7 (shows-mismatch (e .stands .legal) st m) (omega arith) (omega arith))
+      by (refused-at e nay v) = rw v (judges-incomplete 5 (not-complete _ v (λ z. omega arith) (λ z. omega arith)) refl refl)
+      by (mismatched-at e st m v) = rw v (judges-disagree 7 (shows-mismatch (e .stands .legal) st m) refl)

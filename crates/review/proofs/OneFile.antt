@@ -1,15 +1,16 @@
 -- One program, one file: what two reviews of one program leave that end in 0 or 11. Assumes nothing.
 use mathlib.Core.Path.{_≡_, sym, ap, _∙_, subst}
-use mathlib.Core.Logic.{_⊎_, inl, inr, by-cases, _≢_}
-use mathlib.Core.Bool.{true}
+use mathlib.Core.Logic.{by-cases, _≢_}
+use mathlib.Core.Bool.{true, false}
 use mathlib.Core.List.{List}
 use Prim.Native.Nat.{ℕ, _≤_, _<_}
 use native.Mathlib.Decide.{ℕ-discrete}
 use native.Mathlib.Omega.{arith}
 use lib.ListN.{length, getD}
-use borrow.Author.Tests.{ne-eqb}
 use Rattle.tables.specs.Rows.{rows}
 use Rattle.verdicts.specs.declared.Told.{Told}
+use Rattle.verdicts.specs.Numbers.{fills, settles}
+use Rattle.verdicts.proofs.Numbers.{settled-fills, refusal-unfilled, ending-unfilled}
 use Rattle.relation.specs.Table.{words}
 use Rattle.relation.proofs.Truth.{clashing, same-test}
 use Rattle.relation.proofs.Rooms.{holds-same}
@@ -17,54 +18,33 @@ use Rattle.schedules.proofs.Theorems.{decides}
 use Rattle.sheet.specs.Sheet.{sheetOf}
 use Rattle.faults.specs.declared.faults.Fault.{Fault}
 use Rattle.faults.specs.declared.faults.Fault.the-variants.{Reuse, Race}
-use Rattle.replay.specs.InOrder.{orElse}
-use Rattle.replay.specs.Replay.{played}
-use Rattle.replay.specs.Ending.{judged}
+use Rattle.verdicts.specs.InOrder.{orElse}
+use Rattle.steps.specs.Going.{played}
+use Rattle.steps.specs.Ending.{judged}
 use Rattle.replay.specs.Program.{program}
 use Rattle.replay.specs.Schedules.{Complete, Agree, Alike}
-use Rattle.replay.proofs.Refusals.{or-first, or-second}
+use Rattle.verdicts.proofs.InOrder.{or-first, or-second}
 use Rattle.replay.proofs.Plays.{clean-through}
-use Rattle.replay.proofs.Judged.{judged-small}
+use Rattle.replay.proofs.Judged.{judged-ending}
 use Rattle.replay.proofs.Agreements.{reaches-same}
 use Rattle.rooms.specs.Refusals.{refused}
-use Rattle.rooms.proofs.Refusals.{Admitted, admitted, refused-small}
+use Rattle.rooms.proofs.Refusals.{Admitted, admitted}
 use Rattle.order.specs.Order.{Reached}
 use Rattle.order.proofs.Reaching.{same-reached}
 use Rattle.faults.specs.Faults.{faults}
 use Rattle.faults.proofs.Pairs.{same-faults}
 use Rattle.findings.specs.Findings.{faultTold, faultPairs}
-use Rattle.review.specs.Judge.{generations, reaches, verdictOf, fills}
-use Rattle.review.specs.Agreement.{number, Review, settles, OneFile, OneForAll}
+use Rattle.review.specs.Judge.{generations, reaches, verdictOf}
+use Rattle.review.specs.Agreement.{number, Review, OneFile, OneForAll}
 use Rattle.review.proofs.Rooms.{put-front}
 use Rattle.review.proofs.Judging.{told, judges}
+use Rattle.review.proofs.Reviews.{refused-refusal}
 
--- ---- 0 and 11
-
-settled-number : (n : ℕ) → settles n ≡ true → (n ≡ 0) ⊎ (n ≡ 11)
-settled-number n s =
-    by-cases (ℕ-discrete n 0) inl
-    (λ (a : n ≢ 0). by-cases (ℕ-discrete n 11) inr (λ (b : n ≢ 11). clashing s (rw (ne-eqb n 0 a, ne-eqb n 11 b))))
-
-number-settles : (n : ℕ) → (n ≡ 0) ⊎ (n ≡ 11) → settles n ≡ true
-number-settles n (inl e) = rw e
-number-settles n (inr e) = rw e
-
-pub settled-fills : (n : ℕ) → settles n ≡ true → fills n ≡ true
-settled-fills n s = by (settled-number n s)
-  where
-    by : (n ≡ 0) ⊎ (n ≡ 11) → fills n ≡ true
-    by (inl e) = rw e
-    by (inr e) = rw e
-
--- what is told first and is no such number is 0
-first-zero : (a b : Told) → a .number ≤ 9 → settles (orElse a b .number) ≡ true → a .number ≡ 0
-first-zero a b l s =
+-- what is told first and does not fill the rooms is 0
+first-zero : (a b : Told) → (a .number ≢ 0 → fills (a .number) ≡ false) → settles (orElse a b .number) ≡ true → a .number ≡ 0
+first-zero a b f s =
     by-cases (ℕ-discrete (a .number) 0) (λ (e : a .number ≡ 0). e)
-    (λ (n : a .number ≢ 0). by n (settled-number (a .number) (subst (λ (t : Told). settles (t .number) ≡ true) (sym (or-first a b n)) s)))
-  where
-    by : a .number ≢ 0 → (a .number ≡ 0) ⊎ (a .number ≡ 11) → a .number ≡ 0
-    by n (inl e) = e
-    by n (inr e) = absurd (omega arith)
+    (λ (n : a .number ≢ 0). clashing (settled-fills (a .number) (subst (λ (t : Told). settles (t .number) ≡ true) (sym (or-first a b n)) s)) (f n))
 
 -- ---- the verdict of one schedule
 
@@ -88,7 +68,7 @@ module _ {commands lengths σ : List ℕ} {relation room : ℕ} (S : Settling co
 
   passed : refusal .number ≡ 0
   unfolding verdictOf
-  passed = first-zero refusal _ (omega (arith, refused-small commands lengths relation room)) (S .settled)
+  passed = first-zero refusal _ (λ n. refusal-unfilled (refusal .number) (refused-refusal commands lengths relation room n)) (S .settled)
 
   pub admits : Admitted commands lengths relation room
   admits = admitted commands lengths relation room passed
@@ -101,13 +81,13 @@ module _ {commands lengths σ : List ℕ} {relation room : ℕ} (S : Settling co
 
   -- the offered schedule is legal and complete, and all of them agree
   agrees : Complete commands lengths σ × Agree commands lengths
-  agrees = judges (admits .keeps) σ .agreement .0 (settled-number (told (admits .keeps) σ .number) settled-told)
+  agrees = judges (admits .keeps) σ .agreement .0 settled-told
 
   -- what is told is what the faults say
   faults-told : verdictOf commands lengths σ relation room ≡ faulty
   faults-told =
       let j = judged lengths (played commands lengths σ) in
-      judged-told ∙ sym (or-second j faulty (first-zero j faulty (judged-small (admits .keeps) σ) settled-told))
+      judged-told ∙ sym (or-second j faulty (first-zero j faulty (ending-unfilled (j .number) (judged-ending (admits .keeps) σ)) settled-told))
 
   -- any other that is legal and complete gets 0 or 11, too, in rooms that pass
   pub complete-settles : {τ : List ℕ} {relation₂ room₂ : ℕ} → Complete commands lengths τ → refused commands lengths relation₂ room₂ .number ≡ 0
@@ -116,7 +96,7 @@ module _ {commands lengths σ : List ℕ} {relation room : ℕ} (S : Settling co
       let K = admits .keeps in
       record {
         settled =
-            subst (λ (t : Told). settles (t .number) ≡ true) (sym (past-refusal commands lengths τ relation₂ room₂ pass)) (number-settles (told K τ .number) (judges K τ .agreement .1 (c, agrees .1)));
+            subst (λ (t : Told). settles (t .number) ≡ true) (sym (past-refusal commands lengths τ relation₂ room₂ pass)) (judges K τ .agreement .1 (c, agrees .1));
       }
 
 -- ---- the verdicts of two schedules

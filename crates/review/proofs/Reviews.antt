@@ -6,12 +6,14 @@ use mathlib.Core.List.{List, [], _∷_}
 use Prim.Native.Nat.{ℕ, _≤_, _<_}
 use native.Mathlib.Omega.{arith}
 use lib.ListN.{length, getD}
-use borrow.Author.Tests.{eq-eqb, ne-eqb}
+use borrow.Author.Tests.{eq-eqb}
 use Rattle.tables.specs.Rows.{rows}
-use Rattle.tables.specs.Rules.{checked}
+use Rattle.rules.specs.Rules.{checked}
 use Rattle.verdicts.specs.Verdicts.{tell, numbered}
+use Rattle.verdicts.specs.Numbers.{isRefusal, isEnding, fills, isVerdict}
 use Rattle.verdicts.specs.declared.Told.{Told}
 use Rattle.verdicts.specs.declared.Verdict.{Verdict}
+use Rattle.verdicts.proofs.Numbers.{few-refusal, refusal-verdict, refusal-unfilled, ending-verdict, ending-unfilled, fills-verdict}
 use Rattle.relation.specs.Table.{related}
 use Rattle.relation.proofs.Truth.{clashing}
 use Rattle.sheet.specs.declared.Pair.{Pair}
@@ -19,38 +21,33 @@ use Rattle.replay.specs.declared.offered.Judged.{Judged}
 use Rattle.faults.specs.declared.faults.Fault.{Fault}
 use Rattle.faults.specs.declared.faults.Fault.the-variants.{Reuse, Race}
 use Rattle.findings.specs.declared.finding.Finding.{Finding}
-use Rattle.replay.specs.Replay.{played}
+use Rattle.steps.specs.Going.{played}
 use Rattle.replay.specs.Doors.{Replays}
-use Rattle.replay.specs.Ending.{judged}
-use Rattle.rooms.specs.Refusals.{refused}
+use Rattle.steps.specs.Ending.{judged}
+use Rattle.rooms.specs.Refusals.{refused, refusedSizes}
 use Rattle.rooms.specs.Rooms.{numberAt}
 use Rattle.order.specs.Order.{Reached}
 use Rattle.order.specs.Orders.{Orders}
 use Rattle.faults.specs.Faults.{faults}
 use Rattle.sheet.specs.Sheet.{sheetOf}
 use Rattle.findings.specs.Findings.{firstPair, faultTold, Finds}
-use Rattle.review.specs.Judge.{put, generations, reaches, verdictOf, fills}
+use Rattle.review.specs.Judge.{put, generations, reaches, verdictOf}
 use Rattle.review.specs.Agreement.{number, Judges, Reviewed}
-use Rattle.replay.proofs.Refusals.{or-first, or-second}
+use Rattle.verdicts.proofs.InOrder.{or-first, or-second}
 use Rattle.replay.proofs.Plays.{Through, clean-through}
-use Rattle.replay.proofs.Judged.{judged-small, clean-verdict}
+use Rattle.replay.proofs.Judged.{judged-ending, clean-verdict}
 use Rattle.review.proofs.Rooms.{put-front, put-beyond}
-use Rattle.rooms.proofs.Refusals.{Admitted, refused-small, admitted}
+use Rattle.rooms.proofs.Refusals.{Admitted, refused-small, admitted, admitted-sizes}
 use Rattle.order.proofs.Reaching.{same-reached, related-reaches}
 use Rattle.faults.proofs.Pairs.{same-faults}
 use Rattle.review.proofs.Judging.{told, judges}
 
--- ---- which verdicts fill the rooms
+-- ---- the numbers of a refusal and of faults
 
-pub no-fill : (n : ℕ) → n ≢ 0 → n ≤ 9 → fills n ≡ false
-no-fill n a l = rw (ne-eqb n 0 a, ne-eqb n 10 (λ e. omega arith), ne-eqb n 11 (λ e. omega arith))
+pub refused-refusal : (commands lengths : List ℕ) (relation room : ℕ) → let n = refused commands lengths relation room .number in n ≢ 0 → isRefusal n ≡ true
+refused-refusal commands lengths relation room = few-refusal (refused commands lengths relation room .number) (refused-small commands lengths relation room)
 
-pub fault-small : (ps qs : List Pair) → firstPair 10 ps (firstPair 11 qs (tell 0 0 0)) .number ≤ 11
-fault-small (p ∷ ps) qs = omega arith
-fault-small [] (q ∷ qs) = omega arith
-fault-small [] [] = omega arith
-
-fault-fills : (ps qs : List Pair) → fills (firstPair 10 ps (firstPair 11 qs (tell 0 0 0)) .number) ≡ true
+pub fault-fills : (ps qs : List Pair) → fills (firstPair 10 ps (firstPair 11 qs (tell 0 0 0)) .number) ≡ true
 fault-fills (p ∷ ps) qs = refl
 fault-fills [] (q ∷ qs) = refl
 fault-fills [] [] = refl
@@ -72,14 +69,13 @@ module _ (commands lengths σ relation room : List ℕ) where
       let K = admitted commands lengths (length relation) (length room) pass .keeps in
       subst (Judges commands lengths σ) (ap (λ (t : Told). t .number) (or-second refusal (told K σ) pass ∙ sym e)) (judges K σ)
 
-  unfilled : (v : Verdict) → numbered v ≡ verdicts → numbered v .number ≢ 0 → numbered v .number ≤ 9
+  unfilled : (v : Verdict) → numbered v ≡ verdicts → isVerdict (numbered v .number) ≡ true → fills (numbered v .number) ≡ false
       → Reviewed commands lengths σ relation room (record { verdict = v; sheet = sheetOf [] }) relation room
-  unfilled v e n l =
-      let f = no-fill (numbered v .number) n l in
+  unfilled v e t f =
       record {
         demand₁ =
             record {
-              told = omega arith;
+              told = t;
               empty = λ _. refl;
               relation-kept = λ _. refl;
               room-kept = λ _. refl;
@@ -96,8 +92,8 @@ module _ (commands lengths σ relation room : List ℕ) where
       → Reviewed commands lengths σ relation room (record { verdict = v; sheet = sheetOf [] }) relation room
   unfolding verdictOf
   reviewed-refused v e n =
-      unfilled v (e ∙ or-first refusal _ (λ z. n (ap (λ (t : Told). t .number) e ∙ z))) n
-      (omega (arith, ap (λ (t : Told). t .number) e, refused-small commands lengths (length relation) (length room)))
+      let r : isRefusal (numbered v .number) ≡ true = rw e (refused-refusal commands lengths (length relation) (length room) (λ z. n (ap (λ (t : Told). t .number) e ∙ z))) in
+      unfilled v (e ∙ or-first refusal _ (λ z. n (ap (λ (t : Told). t .number) e ∙ z))) (refusal-verdict (numbered v .number) r) (refusal-unfilled (numbered v .number) r)
 
   module _ (pass : refusal .number ≡ 0) where
     A : Admitted commands lengths (length relation) (length room)
@@ -105,26 +101,24 @@ module _ (commands lengths σ relation room : List ℕ) where
 
     -- what the judge says of tables that pass
     module _ {j : Judged} (J : Replays commands lengths σ j) where
-      told-judged : numbered (j .verdict) ≡ judged lengths (played commands lengths σ)
-      told-judged = J .verdict ∙ sym (or-second (checked commands lengths) (judged lengths (played commands lengths σ)) (A .checks))
-
       -- 5 to 9
       pub reviewed-judged : numbered (j .verdict) .number ≢ 0
           → Reviewed commands lengths σ relation room (record { verdict = j .verdict; sheet = sheetOf [] }) relation room
       unfolding verdictOf
       reviewed-judged n =
-          let e = told-judged in
-          unfilled (j .verdict) (e ∙ or-first (judged lengths (played commands lengths σ)) _ (λ z. n (ap (λ (t : Told). t .number) e ∙ z)) ∙ or-second refusal _ pass) n
-          (omega (arith, ap (λ (t : Told). t .number) e, judged-small (A .keeps) σ))
+          let e = J .verdict in
+          let d : isEnding (numbered (j .verdict) .number) ≡ true = rw e (judged-ending (A .keeps) σ) in
+          unfilled (j .verdict) (e ∙ or-first (judged lengths (played commands lengths σ)) _ (λ z. n (ap (λ (t : Told). t .number) e ∙ z)) ∙ or-second refusal _ pass)
+          (ending-verdict (numbered (j .verdict) .number) d) (ending-unfilled (numbered (j .verdict) .number) d n)
 
       -- 0, 10 and 11
       module _ (zero : numbered (j .verdict) .number ≡ 0) {v : Verdict} {r : Finding} {relation′ room′ : List ℕ} (put-in : room′ ≡ put (j .generations) (rows commands) room)
           (long : length room′ ≡ length room) (O : Orders commands lengths room′ relation v relation′) (F : Finds commands lengths room′ relation′ r) where
         clean : judged lengths (played commands lengths σ) .number ≡ 0
-        clean = ap (λ (t : Told). t .number) (sym told-judged) ∙ zero
+        clean = ap (λ (t : Told). t .number) (sym (J .verdict)) ∙ zero
 
         is-put : room′ ≡ put (played commands lengths σ .generations) (rows commands) room
-        is-put = put-in ∙ ap (λ (g : List ℕ). put g (rows commands) room) (J .generations ∙ rw (eq-eqb (checked commands lengths .number) 0 (A .checks)))
+        is-put = put-in ∙ ap (λ (g : List ℕ). put g (rows commands) room) (J .generations)
 
         T : Through (A .keeps) σ
         T = clean-through (A .keeps) σ (clean-verdict lengths (played commands lengths σ) clean)
@@ -138,13 +132,13 @@ module _ (commands lengths σ relation room : List ℕ) where
         same : (c : ℕ) → c < rows commands → numberAt room′ c ≡ g c
         same c l = ap (λ (r : List ℕ). getD r c 0) is-put ∙ put-front (played commands lengths σ .generations) room (rows commands) fits c l
 
-        again : refused commands lengths (length relation) (length room′) .number ≡ 0
-        again = rw long pass
+        again : refusedSizes commands (length relation) (length room′) .number ≡ 0
+        again = rw long (admitted-sizes commands lengths (length relation) (length room) pass)
 
         reached : Reached commands lengths g relation relation′
         reached = same-reached commands lengths (numberAt room′) g same relation relation′ (O .holds (ap (λ (t : Told). t .number) (O .verdict) ∙ again))
 
-        once-more : refused commands lengths (length relation′) (length room′) .number ≡ 0
+        once-more : refusedSizes commands (length relation′) (length room′) .number ≡ 0
         once-more = rw (reached .len) again
 
         -- over a room that holds what reaches what, the faults are those over what reaches what
@@ -162,7 +156,7 @@ module _ (commands lengths σ relation room : List ℕ) where
             record {
               demand₁ =
                   record {
-                    told = omega (arith, fault-small (faults commands lengths g (reaches commands lengths σ) Reuse) (faults commands lengths g (reaches commands lengths σ) Race));
+                    told = fills-verdict (number r) f;
                     empty = λ z. clashing f z;
                     relation-kept = λ z. clashing f z;
                     room-kept = λ z. clashing f z;

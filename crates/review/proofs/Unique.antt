@@ -5,6 +5,7 @@ use mathlib.Core.Bool.{true, false}
 use mathlib.Core.List.{List}
 use Prim.Native.Nat.{ℕ}
 use Rattle.verdicts.specs.Verdicts.{numbered}
+use Rattle.verdicts.specs.Numbers.{fills}
 use Rattle.verdicts.specs.declared.Verdict.{Verdict}
 use Rattle.verdicts.proofs.Verdicts.{numbered-one}
 use Rattle.relation.proofs.Truth.{split}
@@ -12,7 +13,6 @@ use Rattle.relation.specs.Bits.{Words}
 use Rattle.relation.proofs.Rooms.{holds-one}
 use Rattle.sheet.specs.declared.Sheet.{Sheet}
 use Rattle.findings.specs.declared.finding.Finding.{Finding}
-use Rattle.review.specs.Judge.{fills}
 use Rattle.review.specs.Agreement.{number, Reviewed}
 
 module _ (commands lengths σ relation room : List ℕ) (a b : Finding) {ra ga rb gb : List ℕ} (wa : Words ra) (wb : Words rb)

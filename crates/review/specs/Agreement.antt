@@ -1,23 +1,23 @@
 -- What a review promises: the user's three demands; and what follows from them for two reviews of one program.
 use mathlib.Core.Path.{_≡_}
-use mathlib.Core.Bool.{Bool, true, false, _||_}
+use mathlib.Core.Bool.{true, false}
 use mathlib.Core.List.{List, []}
-use mathlib.Core.Logic.{_⊎_, _↔_, _≢_}
+use mathlib.Core.Logic.{_↔_, _≢_}
 use Prim.Native.Nat.{ℕ, _≤_, _<_}
-use lib.Dec.{eqb}
 use lib.ListN.{length, getD}
 use Rattle.tables.specs.Rows.{rows}
 use Rattle.verdicts.specs.Verdicts.{tell, numbered}
+use Rattle.verdicts.specs.Numbers.{fills, isVerdict, settles, disagrees}
 use Rattle.relation.specs.Bits.{Words}
 use Rattle.relation.specs.Table.{words}
 use Rattle.findings.specs.declared.finding.Finding.{Finding}
-use Rattle.replay.specs.Replay.{played}
+use Rattle.steps.specs.Going.{played}
 use Rattle.order.specs.Order.{Reached}
 use Rattle.sheet.specs.Sheet.{sheetOf}
 use Rattle.faults.specs.Faults.{conflict}
 use Rattle.rooms.specs.Refusals.{refused}
 use Rattle.findings.specs.Findings.{faultPairs}
-use Rattle.review.specs.Judge.{put, verdictOf, generations, reaches, fills}
+use Rattle.review.specs.Judge.{put, verdictOf, generations, reaches}
 use Rattle.replay.specs.Schedules.{Complete, Agree, InOneOrder, Disagree}
 
 -- the number of a review's verdict
@@ -27,7 +27,7 @@ number r = numbered (r .verdict) .number
 -- Demand 1: a verdict for every input. Unless it is 0, 10 or 11, the sheet is empty and the lent rooms keep every number they held; beyond
 -- what they are filled with they keep it always.
 pub record Safe (commands relation room : List ℕ) (r : Finding) (relation′ room′ : List ℕ) : Type 0 where
-  pub told : number r ≤ 11
+  pub told : isVerdict (number r) ≡ true
   pub empty : fills (number r) ≡ false → r .sheet ≡ sheetOf []
   pub relation-kept : fills (number r) ≡ false → relation′ ≡ relation
   pub room-kept : fills (number r) ≡ false → room′ ≡ room
@@ -53,9 +53,9 @@ SameOrder commands lengths =
 -- clean with the same generation for each command; 0 exactly when, besides, every two conflicting accesses stand in the same order in all of
 -- those schedules; 7 to 10 only where that agreement fails, and the schedules that show it are given.
 pub record Judges (commands lengths schedule : List ℕ) (n : ℕ) : Type 0 where
-  pub agreement : ((n ≡ 0) ⊎ (n ≡ 11)) ↔ (Complete commands lengths schedule × Agree commands lengths)
+  pub agreement : (settles n ≡ true) ↔ (Complete commands lengths schedule × Agree commands lengths)
   pub order : (n ≡ 0) ↔ (Complete commands lengths schedule × Agree commands lengths × SameOrder commands lengths)
-  pub disagreement : 7 ≤ n → n ≤ 10 → Disagree commands lengths
+  pub disagreement : disagrees n ≡ true → Disagree commands lengths
 
 -- The contract of `review`. The third holds for tables and rooms that pass refusals 1 to 4.
 pub record Reviewed (commands lengths schedule relation room : List ℕ) (r : Finding) (relation′ room′ : List ℕ) : Type 0 where
@@ -84,10 +84,6 @@ pub record SameFile {commands lengths : List ℕ} (a b : Review commands lengths
   pub sheet : a .found .sheet ≡ b .found .sheet
   pub relation : (p : ℕ) → p < words (rows commands) → getD (a .relation′) p 0 ≡ getD (b .relation′) p 0
   pub generations : (c : ℕ) → c < rows commands → getD (a .room′) c 0 ≡ getD (b .room′) c 0
-
--- 0 and 11, the verdicts of programs whose schedules agree
-abbrev pub settles : ℕ → Bool
-settles n = eqb n 0 || eqb n 11
 
 -- its tables and rooms passed refusals 1 to 4
 abbrev pub Unrefused : {commands lengths : List ℕ} → Review commands lengths → Type 0

@@ -7,14 +7,15 @@ use lib.Dec.{eqb}
 use lib.ListN.{take}
 use Rattle.tables.specs.Rows.{rows}
 use Rattle.verdicts.specs.Verdicts.{tell}
+use Rattle.verdicts.specs.Numbers.{fills}
 use Rattle.verdicts.specs.declared.Told.{Told}
 use Rattle.relation.specs.Table.{words}
 use Rattle.schedules.specs.Tally.{bit}
 use Rattle.sheet.specs.declared.Pair.{Pair}
-use Rattle.replay.specs.Replay.{played}
+use Rattle.steps.specs.Going.{played}
 use Rattle.sheet.specs.Sheet.{pair, sheetOf}
 use Rattle.findings.specs.Findings.{faultPairs}
-use Rattle.review.specs.Judge.{verdictOf, generations, reaches, fills}
+use Rattle.review.specs.Judge.{verdictOf, generations, reaches}
 use Rattle.review.specs.Agreement.{number, Review, SameFile, Unrefused}
 
 -- ---- the table

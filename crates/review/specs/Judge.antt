@@ -1,14 +1,13 @@
--- The verdict, in the order tested, and which verdicts fill the rooms.
-use mathlib.Core.Bool.{Bool, _||_}
+-- The verdict, in the order tested.
+use mathlib.Core.Bool.{Bool}
 use mathlib.Core.List.{List, _++_}
 use Prim.Native.Nat.{ℕ}
-use lib.Dec.{eqb}
 use lib.ListN.{take, drop}
 use Rattle.verdicts.specs.declared.Told.{Told}
 use Rattle.schedules.specs.Order.{reach}
-use Rattle.replay.specs.InOrder.{orElse}
-use Rattle.replay.specs.Replay.{played, generation}
-use Rattle.replay.specs.Ending.{judged}
+use Rattle.verdicts.specs.InOrder.{orElse}
+use Rattle.steps.specs.Going.{played, generation}
+use Rattle.steps.specs.Ending.{judged}
 use Rattle.replay.specs.Program.{program}
 use Rattle.rooms.specs.Refusals.{refused}
 use Rattle.findings.specs.Findings.{faultTold}
@@ -30,7 +29,3 @@ module _ (commands lengths schedule : List ℕ) where
   verdictOf relation room =
       orElse (refused commands lengths relation room)
       (orElse (judged lengths (played commands lengths schedule)) (faultTold commands lengths generations reaches))
-
--- For 0, 10 and 11 both rooms are filled. For all others both rooms are untouched.
-abbrev pub fills : ℕ → Bool
-fills n = eqb n 0 || (eqb n 10 || eqb n 11)

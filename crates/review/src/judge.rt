@@ -16,7 +16,9 @@ pub fn review(
     relation: &mut [u32],
     generations: &mut [u32],
 ) -> Finding
-    ensures { λ r. ⌜ Reviewed (now (commands .entry)) (now (lengths .entry)) (now (schedule .entry)) (now (relation .entry)) (now (generations .entry)) r (now (relation .exit)) (now (generations .exit)) ⌝ }
+    ensures { λ r. ⌜ Reviewed
+        (now (commands .entry)) (now (lengths .entry)) (now (schedule .entry)) (now (relation .entry)) (now (generations .entry))
+        r (now (relation .exit)) (now (generations .exit)) ⌝ }
 {
     let refusal = refuse(commands, lengths, relation.len(), generations.len());
     if refusal.number().number != 0 {

@@ -1,46 +1,85 @@
--- Refusals 1 to 4, each from the test that found it. Assumes nothing.
+-- Refusals 1 to 4, each from the test that found it, and what is known of tables and rooms that are not refused. Assumes nothing.
 use mathlib.Core.Path.{_≡_, refl, sym, _∙_}
-use mathlib.Core.Logic.{by-cases, _≢_}
+use mathlib.Core.Logic.{_≢_}
 use mathlib.Core.Bool.{Bool, true, false, cond}
-use mathlib.Core.List.{List}
-use Prim.Native.Nat.{ℕ, _≤_, _<_}
-use native.Mathlib.Decide.{ℕ-discrete}
+use mathlib.Core.List.{List, [], _∷_}
+use Prim.Native.Nat.{ℕ, _≤_}
 use native.Mathlib.Omega.{arith}
-use lib.Dec.{ltb}
-use borrow.Author.Tests.{eq-eqb, ne-eqb, lt-ltb, le-ltb, ltb-false}
 use Rattle.tables.specs.Rows.{rows}
-use Rattle.tables.specs.Rules.{Keeps, checked}
+use Rattle.rules.specs.Rules.{Keeps, badCommands, checked}
 use Rattle.verdicts.specs.Verdicts.{tell, numbered}
 use Rattle.verdicts.specs.declared.Told.{Told}
 use Rattle.verdicts.specs.declared.Verdict.{Verdict}
-use Rattle.tables.proofs.Rules.{passes-zero, checked-small}
+use Rattle.rules.proofs.Rules.{passes-zero, checked-small, good-commands, whole-commands}
+use Rattle.rules.proofs.Checked.{passed, check-first, check-second}
+use Rattle.verdicts.proofs.InOrder.{or-first, or-second, or-either, or-zero}
 use Rattle.relation.specs.Table.{words}
-use Rattle.replay.proofs.Refusals.{check-first, check-second}
-use Rattle.rooms.specs.Refusals.{shortRooms, refused}
+use Rattle.rooms.specs.Short.{roomOf, firstShort}
+use Rattle.rooms.specs.Refusals.{reviewRooms, refused, refusedSizes}
+use Rattle.rooms.specs.Rooms.{Ample}
+use Rattle.rooms.proofs.Rooms.{more-long, all-long, first-either, none-either}
 
-module _ (commands lengths : List ℕ) (v : Verdict) {told : Told} (check : numbered v ≡ checked commands lengths) (said : told ≡ numbered v) where
-  -- of rooms so long
-  module _ (relation generations : ℕ) where
-    pub refuses-tables : told .number ≢ 0 → numbered v ≡ refused commands lengths relation generations
-    unfolding refused
-    refuses-tables n = check-first commands lengths v check said _ n
+-- ---- 1 and 4, of the lengths alone
 
-    module _ (e : told .number ≡ 0) {w : ℕ} (words-are : w ≡ words (rows commands)) where
-      pub refuses-relation : relation < w → tell 4 0 0 ≡ refused commands lengths relation generations
-      unfolding refused
-      refuses-relation l = sym (rw (lt-ltb relation (words (rows commands)) (omega arith))) ∙ check-second commands lengths v check said (shortRooms (rows commands) relation generations) e
+module _ (commands : List ℕ) (relation generations : ℕ) where
+  abbrev shorts : Told
+  shorts = firstShort (reviewRooms (rows commands) relation generations)
 
-      pub refuses-generations : w ≤ relation → generations < rows commands → tell 4 1 0 ≡ refused commands lengths relation generations
-      unfolding refused
-      refuses-generations l m =
-          sym (rw (le-ltb relation (words (rows commands)) (omega arith), lt-ltb generations (rows commands) m))
-          ∙ check-second commands lengths v check said (shortRooms (rows commands) relation generations) e
+  pub sizes-commands : badCommands commands ≡ true → tell 1 0 0 ≡ refusedSizes commands relation generations
+  unfolding refusedSizes
+  sizes-commands e = sym (rw e)
 
-      pub refuses-none : w ≤ relation → rows commands ≤ generations → tell 0 0 0 ≡ refused commands lengths relation generations
-      unfolding refused
-      refuses-none l m =
-          sym (rw (le-ltb relation (words (rows commands)) (omega arith), le-ltb generations (rows commands) m))
-          ∙ check-second commands lengths v check said (shortRooms (rows commands) relation generations) e
+  sizes-shorts : badCommands commands ≡ false → shorts ≡ refusedSizes commands relation generations
+  unfolding refusedSizes
+  sizes-shorts e = sym (rw e)
+
+  pub sizes-rooms : badCommands commands ≡ false → {w : ℕ} → w ≡ words (rows commands)
+      → firstShort (roomOf 0 w relation ∷ roomOf 1 (rows commands) generations ∷ []) ≡ refusedSizes commands relation generations
+  sizes-rooms e w = rw w (sizes-shorts e)
+
+  -- what holds of 4 with each digit, and of 0, holds of what is told of the rooms
+  shorts-either : (P : Told → Type 0) → P (tell 4 0 0) → P (tell 4 1 0) → P (tell 0 0 0) → P shorts
+  shorts-either P p q z = first-either (roomOf 0 (words (rows commands)) relation) _ P p (first-either (roomOf 1 (rows commands) generations) [] P q (none-either P z))
+
+  -- rooms that are long enough, and rooms that are not told short
+  none-shorts : words (rows commands) ≤ relation → rows commands ≤ generations → tell 0 0 0 ≡ shorts
+  none-shorts r g = sym (more-long (roomOf 0 (words (rows commands)) relation) _ r ∙ more-long (roomOf 1 (rows commands) generations) [] g ∙ none-either (λ (t : Told). t ≡ tell 0 0 0) refl)
+
+  long-rooms : shorts .number ≡ 0 → (words (rows commands) ≤ relation) × (rows commands ≤ generations)
+  long-rooms e =
+      let r = roomOf 0 (words (rows commands)) relation in
+      let g = roomOf 1 (rows commands) generations in
+      let (a, b) = all-long r (g ∷ []) e in
+      (a, all-long g [] b .0)
+
+  good-sizes : (b : Bool) → cond b (tell 1 0 0) (tell 0 0 0) .number ≡ 0 → b ≡ false
+  good-sizes true e = absurd (omega arith)
+  good-sizes false e = refl
+
+  -- lengths that are not refused
+  pub ample : refusedSizes commands relation generations .number ≡ 0 → Ample commands relation generations
+  unfolding refusedSizes
+  ample e =
+      let (a, b) = or-zero (cond (badCommands commands) (tell 1 0 0) (tell 0 0 0)) shorts e in
+      let (r, g) = long-rooms b in
+      record { few-rows = whole-commands commands (good-sizes (badCommands commands) a) .1; relation-fits = r; generations-fit = g }
+
+-- ---- 1 to 4
+
+-- the check of tables said v
+module _ (commands lengths : List ℕ) (v : Verdict) {told : Told} (check : numbered v ≡ checked commands lengths) (said : told ≡ numbered v)
+    (relation generations : ℕ) where
+  pub refuses-tables : told .number ≢ 0 → numbered v ≡ refused commands lengths relation generations
+  unfolding refused
+  refuses-tables n = check-first commands lengths v check said _ n
+
+  -- of tables that pass only the rooms can be refused
+  pub refuses-rooms : told .number ≡ 0 → refusedSizes commands relation generations ≡ refused commands lengths relation generations
+  unfolding refused
+  refuses-rooms e =
+      let K = passed commands lengths v check said e in
+      sym (sizes-shorts commands relation generations (good-commands commands (K .whole) (K .few-rows)))
+      ∙ check-second commands lengths v check said (shorts commands relation generations) e
 
 -- ---- tables and rooms that pass
 pub record Admitted (commands lengths : List ℕ) (relation generations : ℕ) : Type 0 where
@@ -50,36 +89,39 @@ pub record Admitted (commands lengths : List ℕ) (relation generations : ℕ) :
   pub generations-fit : rows commands ≤ generations
 
 module _ (commands lengths : List ℕ) (relation generations : ℕ) where
-  small-rooms : (a b : Bool) → cond a (tell 4 0 0) (cond b (tell 4 1 0) (tell 0 0 0)) .number ≤ 4
-  small-rooms true b = omega arith
-  small-rooms false true = omega arith
-  small-rooms false false = omega arith
+  -- 1 to 3, as they are without rooms
+  pub refused-tables : checked commands lengths .number ≢ 0 → checked commands lengths ≡ refused commands lengths relation generations
+  unfolding refused
+  refused-tables n = or-first (checked commands lengths) (shorts commands relation generations) n
+
+  -- tables and rooms that pass
+  pub refused-none : checked commands lengths .number ≡ 0 → words (rows commands) ≤ relation → rows commands ≤ generations
+      → tell 0 0 0 ≡ refused commands lengths relation generations
+  unfolding refused
+  refused-none e r g = none-shorts commands relation generations r g ∙ or-second (checked commands lengths) (shorts commands relation generations) e
+
+  -- what holds of 1 to 3, of 4 with each digit, and of 0, holds of what is told
+  pub refused-either : (P : Told → Type 0) → P (checked commands lengths) → P (tell 4 0 0) → P (tell 4 1 0) → P (tell 0 0 0)
+      → P (refused commands lengths relation generations)
+  unfolding refused
+  refused-either P c p q z =
+      or-either P (checked commands lengths) (shorts commands relation generations) c (λ _. shorts-either commands relation generations P p q z)
 
   pub refused-small : refused commands lengths relation generations .number ≤ 4
-  unfolding refused
-  refused-small =
-      by-cases (ℕ-discrete (checked commands lengths .number) 0)
-      (λ (e : checked commands lengths .number ≡ 0). rw (eq-eqb _ _ e) (small-rooms (ltb relation (words (rows commands))) (ltb generations (rows commands))))
-      (λ (n : checked commands lengths .number ≢ 0). rw (ne-eqb _ _ n) (omega (arith, checked-small commands lengths)))
+  refused-small = refused-either (λ (t : Told). t .number ≤ 4) (omega (arith, checked-small commands lengths)) (omega arith) (omega arith) (omega arith)
 
-  big-rooms : (a b : Bool) → cond a (tell 4 0 0) (cond b (tell 4 1 0) (tell 0 0 0)) .number ≡ 0 → (a ≡ false) × (b ≡ false)
-  big-rooms true b e = absurd (omega arith)
-  big-rooms false true e = absurd (omega arith)
-  big-rooms false false e = (refl, refl)
+  module _ (e : refused commands lengths relation generations .number ≡ 0) where
+    pub admitted : Admitted commands lengths relation generations
+    unfolding refused
+    admitted =
+        let (a, b) = or-zero (checked commands lengths) (shorts commands relation generations) e in
+        let (r, g) = long-rooms commands relation generations b in
+        record { checks = a; keeps = passes-zero commands lengths a; relation-fits = r; generations-fit = g }
 
-  pub admitted : refused commands lengths relation generations .number ≡ 0 → Admitted commands lengths relation generations
-  unfolding refused
-  admitted e =
-      by-cases (ℕ-discrete (checked commands lengths .number) 0)
-      (λ (z : checked commands lengths .number ≡ 0).
-      let q : shortRooms (rows commands) relation generations .number ≡ 0 = rw (eq-eqb _ _ z) at e in
-      let (a, b) = big-rooms (ltb relation (words (rows commands))) (ltb generations (rows commands)) q in
-      record { checks = z; keeps = passes-zero commands lengths z; relation-fits = ltb-false _ _ a; generations-fit = ltb-false _ _ b })
-      (λ (n : checked commands lengths .number ≢ 0). absurd (n (rw (ne-eqb _ _ n) at e)))
-
-  -- what is not refused is told 0
-  pub refused-none : refused commands lengths relation generations .number ≡ 0 → tell 0 0 0 ≡ refused commands lengths relation generations
-  unfolding refused
-  refused-none e =
-      let A = admitted e in
-      sym (rw (eq-eqb _ _ (A .checks), le-ltb relation (words (rows commands)) (A .relation-fits), le-ltb generations (rows commands) (A .generations-fit)))
+    -- nor are their lengths refused
+    pub admitted-sizes : refusedSizes commands relation generations .number ≡ 0
+    unfolding refused
+    admitted-sizes =
+        let K = admitted .keeps in
+        let (_, b) = or-zero (checked commands lengths) (shorts commands relation generations) e in
+        rw (← sizes-shorts commands relation generations (good-commands commands (K .whole) (K .few-rows))) b

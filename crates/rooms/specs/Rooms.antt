@@ -2,8 +2,9 @@
 use mathlib.Core.List.{List}
 use Prim.Native.Nat.{ℕ, _≤_, _<_}
 use lib.ListN.{length, getD}
+use Rattle.tables.specs.Limits.{mostRows}
 use Rattle.tables.specs.Rows.{rows}
-use Rattle.tables.specs.Rules.{Keeps}
+use Rattle.rules.specs.Rules.{Keeps}
 use Rattle.relation.specs.Table.{words}
 
 -- numbers in a room, or in a list, by their place
@@ -22,6 +23,12 @@ pub record TwoCommands (commands generations : List ℕ) (i j : ℕ) : Type 0 wh
   pub from : i < rows commands
   pub to : j < rows commands
   pub whole : rows commands ≤ length generations
+
+-- there are few rows, and rooms so long have room for their relation and generations
+pub record Ample (commands : List ℕ) (relation generations : ℕ) : Type 0 where
+  pub few-rows : rows commands ≤ mostRows
+  pub relation-fits : words (rows commands) ≤ relation
+  pub generations-fit : rows commands ≤ generations
 
 -- there is room for the generations and the relation of tables that pass
 pub record Roomy (commands lengths generations relation : List ℕ) : Type 0 where

@@ -2,10 +2,23 @@
 ghost use mathlib.Core.Path.{_≡_};
 ghost use lib.Dec.{eqb};
 ghost use Rattle.verdicts.specs.Verdicts.{numbered};
-ghost use Rattle.rooms.specs.Refusals.{refused};
+ghost use Rattle.rooms.specs.Refusals.{refused, refusedSizes};
+use crate::short::short_room;
 use relation::table_words;
-use tables::check_tables;
+use rules::bad_commands;
+use rules::check_tables;
 use verdicts::Verdict;
+
+// 1 and 4, or 0, of the lengths alone: no table is gone through.
+pub fn refuse_sizes(commands: &[u32], relation: usize, generations: usize) -> Verdict
+    ensures { λ r. ⌜ numbered r ≡ refusedSizes (now (commands .entry)) relation generations ⌝ }
+{
+    if bad_commands(commands) {
+        return Verdict::BadCommands;
+    }
+    let m = commands.len() / 3;
+    short_room(&[[0, table_words(m as u32), relation], [1, m, generations]])
+}
 
 // 1 to 4, or 0, of tables and the lengths of the two rooms.
 pub fn refuse(commands: &[u32], lengths: &[u32], relation: usize, generations: usize) -> Verdict
@@ -15,14 +28,7 @@ pub fn refuse(commands: &[u32], lengths: &[u32], relation: usize, generations: u
     if verdict.number().number != 0 {
         return verdict;
     }
-    let m = commands.len() / 3;
-    if relation < table_words(m as u32) {
-        return Verdict::ShortRoom(0);
-    }
-    if generations < m {
-        return Verdict::ShortRoom(1);
-    }
-    Verdict::Clean
+    refuse_sizes(commands, relation, generations)
 }
 
 // Are tables and rooms admitted, which is to say not refused? Callers that only go on, or not, are spared the verdict.

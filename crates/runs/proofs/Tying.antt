@@ -11,6 +11,7 @@ use lib.Dec.{eqb}
 use lib.ListN.{set}
 use Rattle.relation.specs.Bits.{bitOf}
 use Rattle.relation.proofs.Truth.{clashing, split, both}
+use Rattle.relation.proofs.Words.{except-bit, zero-bit}
 use Rattle.warps.specs.Language.{Expr, Stm, skip, assign, branch, while, again, break, invoke, return, Mem, eval, test}
 use Rattle.warps.specs.Warp.{div, call, on, Mask, DisableMask, Item, stm, tok, onto, Config, act, updated, initial}
 use Rattle.warps.specs.Lists.{rowsFrom}
@@ -18,7 +19,7 @@ use Rattle.warps.proofs.Proceed.{any-some, unwind, execute, proceed}
 use Rattle.warps.proofs.Theorems.{highest-stays}
 use Rattle.lanes.specs.Words.{syncToken, divToken, brkToken, callToken, stateOf, except, wokenBy, brokenBy, returnedBy, leaving, onlyActive, highestOf, allOf}
 use Rattle.lanes.specs.declared.Lanes.{Lanes}
-use Rattle.lanes.proofs.Bits.{except-bit, zero-bit, Below, below-except, any-zero, any-word, highest-above, highest-in, all-bit}
+use Rattle.lanes.proofs.Bits.{Below, below-except, any-zero, any-word, highest-above, highest-in, all-bit}
 use Rattle.lanes.proofs.Words.{Apart, woken-state, woken-active, broken-state, returned-state, apart-woken, apart-broken, apart-returned, apart-fewer}
 use Rattle.kernels.specs.Rows.{statements, listOf, kindOf, xOf, yOf, zOf, skipKind, assignKind, ifKind, whileKind, breakKind, callKind}
 use Rattle.values.specs.Expressions.{expression}

@@ -44,7 +44,8 @@ fn ended(ending: u32, taken: u64) -> Course
 // A run from the start. A step that would overfill is made, told, and leaves the cells as they were.
 fn run_from(code: &[u32], expressions: &[u32], lanes: u32, cells: &mut [u32], steps: u64) -> Course
     requires { ⌜ statements (now code) ≤ mostStatements ⌝ }
-    ensures { λ r. ⌜ _≡_ {A = KernelTold} (record { answer = r; cells = now (cells .exit) }) (tellRun (runKernel (now (code .entry)) (now (expressions .entry)) lanes steps (now (cells .entry)))) ⌝ }
+    ensures { λ r. ⌜ _≡_ {A = KernelTold} (record { answer = r; cells = now (cells .exit) })
+        (tellRun (runKernel (now (code .entry)) (now (expressions .entry)) lanes steps (now (cells .entry)))) ⌝ }
 {
     let mut stack = [0u64; Stack::ROOM];
     let mut stand = start(code, lanes, &mut stack);

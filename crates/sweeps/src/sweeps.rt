@@ -42,7 +42,9 @@ fn sweep(room: &mut [u32], m: u32, pairs: &[u32], first: usize, end: usize) -> b
 // The same for all pairs, part after part. A part ends before the pair that `parts` tells; whatever stands there, no pair is left out.
 fn sweep_parts(room: &mut [u32], m: u32, pairs: &[u32], parts: &[u32]) -> bool
     requires { ⌜ words m ≤ length (now room) ⌝ }
-    ensures { λ r. ⌜ Pass (PairIn (now (pairs .entry)) m) m (PairBetween (now (pairs .entry)) 0 (pairCount (now (pairs .entry)))) (now (room .entry)) (now (room .exit)) r ⌝ }
+    ensures { λ r.
+        ⌜ Pass (PairIn (now (pairs .entry)) m) m (PairBetween (now (pairs .entry)) 0 (pairCount (now (pairs .entry))))
+        (now (room .entry)) (now (room .exit)) r ⌝ }
 {
     let n = pairs.len() / 2;
     let mut changed = false;

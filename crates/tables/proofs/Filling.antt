@@ -8,9 +8,9 @@ use native.Mathlib.Omega.{arith}
 use lib.Dec.{eqb}
 use lib.ListN.{length, getD, set, length-set}
 use lib.Seq.{getD-set-same, getD-set-other}
-use Rattle.tables.specs.Rows.{total, firstRow, threadOf, isFirst}
-use Rattle.tables.specs.Heads.{Heads, Headed, FilledTo, Fills}
-use Rattle.tables.proofs.Rows.{first-none, first-next, first-all, only, same-head}
+use Rattle.tables.specs.Rows.{firstRow, threadOf, isFirst}
+use Rattle.tables.specs.Heads.{headOf, ownHead, Heads, Headed, FilledTo, Fills}
+use Rattle.tables.proofs.Rows.{first-none, first-next, first-all, only, past-head, same-head}
 
 -- ---- a room that is filled by one store after another
 
@@ -21,7 +21,6 @@ filled-more {after} {n} {v} l e F = record {
   done = λ c h.
       by-cases (ℕ-discrete c n) (λ (s : c ≡ n). rw s (getD-set-same after n v 0 (omega arith) ∙ sym e))
       (λ (d : ¬ (c ≡ n)). getD-set-other after n c v 0 d ∙ F .done c (omega arith));
-  kept = λ c h. getD-set-other after n c v 0 (λ s. omega arith) ∙ F .kept c (omega arith);
 }
 
 pub fills-none : (from head : ℕ) (room : List ℕ) → Fills from from head room room
@@ -35,10 +34,6 @@ fills-more from n head before after low high G f old says F =
 
 -- ---- the heads, thread by thread
 
--- the first row of row c's thread
-abbrev pub headOf : List ℕ → ℕ → ℕ
-headOf lengths c = firstRow lengths (threadOf lengths c)
-
 -- the rows before `head`, where thread t begins or the room ends, have their heads
 pub record Begun (lengths : List ℕ) (t head : ℕ) (before after : List ℕ) : Type 0 where
   pub at : head ≡ min (firstRow lengths t) (length before)
@@ -47,7 +42,7 @@ pub record Begun (lengths : List ℕ) (t head : ℕ) (before after : List ℕ) :
 pub begun-none : (lengths room : List ℕ) → Begun lengths 0 0 room room
 begun-none lengths room = record {
   at = omega (arith, first-none lengths);
-  heads = record { len = refl; done = λ c h. absurd (omega arith); kept = λ c h. refl };
+  heads = record { len = refl; done = λ c h. absurd (omega arith) };
 }
 
 -- v is stored in thread t's rows, as far as the room goes
@@ -64,25 +59,23 @@ begun-more {lengths} {before} {t} l e s B G = record {
       (B .heads);
 }
 
-pub begun-all : {lengths : List ℕ} {t head : ℕ} {before after : List ℕ} → length lengths ≤ t → Begun lengths t head before after
-    → Heads lengths before after
-begun-all {lengths} {t} l B =
+-- past the last thread what is left of the room has one head
+pub begun-all : {lengths : List ℕ} {t head room : ℕ} {before heads after : List ℕ} → length lengths ≤ t → room ≡ length before
+    → Begun lengths t head before heads → Fills head room head heads after → Heads lengths before after
+begun-all {lengths} {t} {head} {before = before} l e B G =
     let all = first-all lengths t l in
-    record {
-      len = B .heads .len;
-      head = λ c room there. B .heads .done c (omega arith);
-      kept = λ c past. B .heads .kept c (omega arith);
-    }
+    let F = G (headOf lengths) before (λ c low high. past-head lengths c (omega (arith, B .at)) ∙ omega (arith, B .at)) (B .heads) in
+    record { len = F .len; all = record { head = λ c h. F .done c (omega arith) } }
 
--- a room that is large enough has them all
-pub headed : {lengths before after : List ℕ} → total lengths ≤ length before → Heads lengths before after → Headed lengths after
-headed fits H = record { head = λ c l. H .head c (omega arith) l }
+-- the rows that a room is long enough for have theirs
+pub headed : {lengths before after : List ℕ} (n : ℕ) → n ≤ length before → Heads lengths before after → Headed lengths after n
+headed n fits H = record { head = λ c l. H .all .head c (omega arith) }
 
--- a row is the first of its thread exactly when it is its own head
-pub first-by-head : {lengths heads : List ℕ} → Headed lengths heads → (c : ℕ) → c < total lengths → eqb c (getD heads c 0) ≡ isFirst lengths c
-first-by-head H c l = ap (eqb c) (H .head c l)
+module _ {lengths heads : List ℕ} {n : ℕ} (H : Headed lengths heads n) where
+  -- a row is the first of its thread exactly when it is its own head
+  pub first-by-head : (c : ℕ) → c < n → ownHead heads c ≡ isFirst lengths c
+  first-by-head c l = ap (eqb c) (H .head c l)
 
--- two rows are of one thread exactly when they have one head
-pub same-by-head : {lengths heads : List ℕ} → Headed lengths heads → (x y : ℕ) → x < total lengths → y < total lengths
-    → eqb (getD heads x 0) (getD heads y 0) ≡ eqb (threadOf lengths x) (threadOf lengths y)
-same-by-head {lengths} H x y hx hy = rw (H .head x hx, H .head y hy) (same-head lengths x y hx hy)
+  -- two rows are of one thread exactly when they have one head
+  pub same-by-head : (x y : ℕ) → x < n → y < n → eqb (getD heads x 0) (getD heads y 0) ≡ eqb (threadOf lengths x) (threadOf lengths y)
+  same-by-head x y hx hy = rw (H .head x hx, H .head y hy) (same-head lengths x y)

@@ -1,7 +1,8 @@
 // For each row, where its thread begins.
+ghost use mathlib.Core.Path.{_≡_};
 ghost use Prim.Native.Nat.{_≤_};
 ghost use lib.ListN.{length};
-ghost use Rattle.tables.specs.Heads.{Fills, Heads};
+ghost use Rattle.tables.specs.Heads.{ownHead, Fills, Heads};
 use crate::threads::least;
 
 // `head` is stored from `from` to before `to`.
@@ -16,17 +17,29 @@ fn fill(room: &mut [usize], from: usize, to: usize, head: usize)
     }
 }
 
-// For each row that is there, as far as the room goes, the first row of its thread. The rest of the room is kept.
-// No head passes the end of the room, so that no sum can wrap.
+// For each row, as far as the room goes, the first row of its thread; rows past all lengths begin where the lengths end.
+// No head that is stored passes the end of the room, so that no sum can wrap.
 pub fn put_heads(lengths: &[u32], heads: &mut [usize])
     ensures { λ _. ⌜ Heads (now (lengths .entry)) (now (heads .entry)) (now (heads .exit)) ⌝ }
 {
+    let room = heads.len();
     let mut head = 0;
     let mut t = 0;
     while t < lengths.len() {
-        let end = least(head + lengths[t] as usize, heads.len());
+        let end = least(head + lengths[t] as usize, room);
         fill(heads, head, end, head);
         head = end;
         t += 1;
     }
+    fill(heads, head, room, head);
+}
+
+// Is row c its own head, and so the first of its thread? What stands past the room counts as 0.
+pub fn is_first(heads: &[usize], c: usize) -> bool
+    ensures { λ r. ⌜ r ≡ ownHead (now (heads .entry)) c ⌝ }
+{
+    if heads.len() <= c {
+        return c == 0;
+    }
+    c == heads[c]
 }

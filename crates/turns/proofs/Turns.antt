@@ -1,21 +1,31 @@
--- Each answer, from the tests that led to it. Assumes nothing.
-use mathlib.Core.Path.{_≡_, refl, sym, ap}
-use mathlib.Core.Bool.{Bool, true, false, _&&_}
-use mathlib.Core.List.{List}
-use mathlib.Core.Logic.{by-cases}
-use Prim.Native.Nat.{ℕ, zero, suc, _+_, _-_, _≤_, _<_}
-use native.Mathlib.Decide.{decLt}
-use native.Mathlib.Nat.{add-zero}
+-- Each answer, from the tests that led to it; and what is said of the threads of a set. Assumes nothing.
+use mathlib.Core.Path.{_≡_, refl, sym, ap, _∙_}
+use mathlib.Core.Bool.{Bool, true, false, not, _&&_}
+use mathlib.Core.List.{List, [], _∷_, map}
+use mathlib.Core.Logic.{by-cases, ⊎-elim, _≢_}
+use Prim.Native.Nat.{ℕ, zero, suc, _+_, _≤_, _<_}
+use native.Mathlib.Decide.{ℕ-discrete}
 use native.Mathlib.Omega.{arith}
 use lib.Dec.{eqb, ltb}
-use lib.ListN.{length, getD, List·getD-eq-default}
-use borrow.Author.Tests.{lt-ltb, le-ltb}
+use lib.ListN.{length, getD, set}
+use borrow.Author.Tests.{lt-ltb, le-ltb, ltb-true, eq-eqb, ne-eqb}
+use Rattle.relation.proofs.Truth.{both}
+use Rattle.tables.specs.Limits.{mostThreads}
 use Rattle.tables.specs.Lowest.{lowest}
-use Rattle.tables.specs.Rows.{firstRow}
 use Rattle.tables.proofs.Lowest.{lowest-is}
-use Rattle.tables.proofs.Scans.{Scanned}
-use Rattle.tables.proofs.Rows.{first-next}
-use Rattle.turns.specs.Turns.{mayStep, goesFirst, stepsFirst, lowestOr}
+use Rattle.turns.specs.Counting.{top, counted}
+use Rattle.turns.specs.Turns.{held, letGo, released, settled, hasLeft, mayGo, mayStep, lowestOr}
+
+-- ---- counters
+
+-- a counter that is not at its largest goes up
+pub counted-more : (n : ℕ) → n < top → counted n ≡ n + 1
+unfolding counted
+counted-more n l = rw (lt-ltb n top l)
+
+pub counted-top : (n : ℕ) → top ≤ n → n ≡ counted n
+unfolding counted
+counted-top n l = rw (le-ltb n top l)
 
 -- ---- the lowest that passes one test, or else another
 
@@ -31,54 +41,56 @@ module _ (p q : ℕ → Bool) (n : ℕ) where
   or-none none =
       or-second (sym (lowest-is p (record { at-most = omega arith; passes = λ l. absurd (omega arith); below = none }))) (omega arith) refl
 
--- ---- a thread by its numbers
+-- ---- a thread that has a command left
 
-module _ (lengths next waits : List ℕ) (t : ℕ) where
-  pub may-is : t < length lengths → {a b : ℕ} → a ≡ getD next t 0 → b ≡ getD waits t 0 → (ltb a (getD lengths t 0) && eqb b 0) ≡ mayStep lengths next waits t
-  unfolding mayStep
-  may-is l e f = rw (lt-ltb t (length lengths) l, e, f)
+module _ (lengths : List ℕ) (t n : ℕ) where
+  pub left-past : mostThreads ≤ t → false ≡ hasLeft lengths t n
+  unfolding hasLeft
+  left-past l = rw (le-ltb t mostThreads l)
 
-  pub may-not : length lengths ≤ t → false ≡ mayStep lengths next waits t
-  unfolding mayStep
-  may-not l = rw (le-ltb t (length lengths) l)
+  module _ (h : t < mostThreads) where
+    pub left-none : length lengths ≤ t → false ≡ hasLeft lengths t n
+    unfolding hasLeft
+    left-none l = rw (lt-ltb t mostThreads h, le-ltb t (length lengths) l)
 
-  module _ (early : List Bool) where
-    pub steps-first-is : {a b : Bool} {n row : ℕ} → a ≡ mayStep lengths next waits t → n ≡ getD next t 0 → row ≡ firstRow lengths t → b ≡ goesFirst early (row + n)
-        → (a && b) ≡ stepsFirst (goesFirst early) lengths next waits t
-    unfolding stepsFirst
-    steps-first-is e f g h = rw (e, h, f, g)
+    pub left-is : t < length lengths → ltb n (getD lengths t 0) ≡ hasLeft lengths t n
+    unfolding hasLeft
+    left-is l = rw (lt-ltb t mostThreads h, lt-ltb t (length lengths) l)
 
--- ---- nothing past the list goes first
+  pub record Left : Type 0 where
+    pub thread : t < mostThreads
+    pub there : t < length lengths
+    pub left : n < getD lengths t 0
 
-no : (b : Bool) → (b && false) ≡ false
-no true = refl
-no false = refl
+  pub left-so : hasLeft lengths t n ≡ true → Left
+  unfolding hasLeft
+  left-so e =
+      let (f, u) = both (ltb t mostThreads) _ e in
+      let (g, h) = both (ltb t (length lengths)) _ u in
+      record { thread = ltb-true _ _ f; there = ltb-true _ _ g; left = ltb-true _ _ h }
 
-later : (lengths : List ℕ) (t d : ℕ) → firstRow lengths t ≤ firstRow lengths (t + d)
-later lengths t zero = rw add-zero (omega arith)
-later lengths t (suc d) =
-    let more : t + suc d ≡ t + d + 1 = omega arith in
-    omega (arith, later lengths t d, first-next lengths (t + d), ap (firstRow lengths) more)
+pub may-is : (lengths next waits : List ℕ) (t : ℕ) {n w : ℕ} {l b : Bool} → n ≡ getD next t 0 → w ≡ getD waits t 0 → l ≡ mayGo lengths t n w → l ≡ b
+    → mayStep lengths next waits t ≡ b
+unfolding mayStep
+may-is lengths next waits t e f g h = rw (e, f) at (sym g ∙ h)
 
-module _ (early : List Bool) (lengths next waits : List ℕ) where
-  past-list : (k : ℕ) → length early ≤ firstRow lengths k + getD next k 0 → stepsFirst (goesFirst early) lengths next waits k ≡ false
-  unfolding stepsFirst
-  past-list k l = rw (List·getD-eq-default early false l) (no (mayStep lengths next waits k))
+-- ---- a thread that waits
 
-  pub none-first : length early ≡ 0 → (k : ℕ) → k < length lengths → stepsFirst (goesFirst early) lengths next waits k ≡ false
-  none-first e k _ = past-list k (omega arith)
+pub held-is : (waits : List ℕ) (t : ℕ) {w : ℕ} → w ≡ getD waits t 0 → (ltb t mostThreads && not (eqb w 0)) ≡ held waits t
+unfolding held
+held-is waits t e = rw e
 
-  -- a thread that begins past the list, and those after it
-  pub scan-past : {t row : ℕ} → Scanned (stepsFirst (goesFirst early) lengths next waits) (length lengths) t → row ≡ firstRow lengths t → length early ≤ row
-      → length lengths ≡ lowest (stepsFirst (goesFirst early) lengths next waits) (length lengths)
-  scan-past {t} S e l =
-      sym (lowest-is (stepsFirst (goesFirst early) lengths next waits) (record {
-        at-most = omega arith;
-        passes = λ m. absurd (omega arith);
-        below =
-            λ k m.
-            by-cases (decLt k t) (λ (b : k < t). S .none k b)
-            (λ (b : ¬ (k < t)).
-            let same : t + (k - t) ≡ k = omega arith in
-            past-list k (omega (arith, later lengths t (k - t), ap (firstRow lengths) same, e)));
-      }))
+-- where nobody is to be released, all wait as before
+let-go-nobody : (x : ℕ) → letGo 0 x ≡ x
+let-go-nobody x = by-cases (ℕ-discrete x 0) (λ (e : x ≡ 0). rw (eq-eqb x 0 e) (sym e)) (λ (n : x ≢ 0). rw (ne-eqb x 0 n))
+
+pub released-nobody : (waits : List ℕ) → released 0 waits ≡ waits
+released-nobody [] = refl
+released-nobody (x ∷ waits) = rw (let-go-nobody x, released-nobody waits)
+
+module _ (t wait frees : ℕ) (waits : List ℕ) {now : List ℕ} (e : now ≡ set waits t wait) where
+  pub settles-some : {then : List ℕ} → then ≡ released frees now → then ≡ settled t wait frees waits
+  settles-some f = f ∙ ap (released frees) e
+
+  pub settles-none : frees ≡ 0 → now ≡ settled t wait frees waits
+  settles-none f = rw f (e ∙ sym (released-nobody (set waits t wait)))

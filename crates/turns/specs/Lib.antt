@@ -1,2 +1,4 @@
--- Read Turns: who waits, who may step, and whose turn it is.
+-- Read Counting (counters); Turns (who waits, who may step, and who goes first). By itself: Ready (the sets that a schedule writer keeps).
+pub mod Counting
 pub mod Turns
+pub mod Ready

@@ -1,18 +1,37 @@
 // What threads wait for: 0, or a barrier plus 1.
 ghost use mathlib.Core.Path.{_≡_};
-ghost use lib.ListN.{getD};
+ghost use lib.ListN.{getD, set};
+ghost use Rattle.tables.specs.Limits.{mostThreads};
 ghost use Rattle.tables.specs.Lowest.{lowest};
-ghost use Rattle.turns.specs.Turns.{held, letGo, released};
+ghost use Rattle.turns.specs.Turns.{held, letGo, released, settled};
+ghost use Rattle.turns.specs.Ready.{heldBelow, heldAfter};
+use sets::Set;
 use tables::Table;
 
 // The number at a place, or 0 past the end.
-pub(crate) fn at(numbers: &[u32], i: usize) -> u32
+pub fn at(numbers: &[u32], i: usize) -> u32
     ensures { λ r. ⌜ r ≡ getD (now (numbers .entry)) i 0 ⌝ }
 {
     if i < numbers.len() {
         return numbers[i];
     }
     0
+}
+
+// A number is put at a place; past the end there is none.
+pub fn put(numbers: &mut [u32], i: usize, x: u32)
+    ensures { λ _. ⌜ now (numbers .exit) ≡ set (now (numbers .entry)) i x ⌝ }
+{
+    if i < numbers.len() {
+        numbers[i] = x;
+    }
+}
+
+// Is thread t blocked?
+fn is_held(waits: &[u32], t: usize) -> bool
+    ensures { λ r. ⌜ r ≡ held (now (waits .entry)) t ⌝ }
+{
+    (t < Table::THREADS) & (at(waits, t) != 0)
 }
 
 // A thread that waits for w does so no more.
@@ -23,28 +42,59 @@ fn let_go(waits: u32, w: u32) -> u32
 }
 
 // Every thread that waits for w is released.
-pub fn release(waits: [u32; Table::THREADS], w: u32) -> [u32; Table::THREADS]
-    ensures { λ r. ⌜ r ≡ released w waits ⌝ }
+fn release(waits: &mut [u32], w: u32)
+    ensures { λ _. ⌜ now (waits .exit) ≡ released w (now (waits .entry)) ⌝ }
 {
-    let mut after = waits;
     let mut t = 0;
-    while t < Table::THREADS {
-        after[t] = let_go(after[t], w);
+    while t < waits.len() {
+        waits[t] = let_go(waits[t], w);
         t += 1;
     }
-    after
 }
 
-// The lowest of some threads that waits, or their number.
+// Thread t waits for `wait`, and then those are released who wait for `frees`. Where that is 0 there is nobody to look for.
+pub fn settle(waits: &mut [u32; Table::THREADS], t: usize, wait: u32, frees: u32)
+    ensures { λ _. ⌜ now (waits .exit) ≡ settled t wait frees (now (waits .entry)) ⌝ }
+{
+    put(waits, t, wait);
+    if frees != 0 {
+        release(waits, frees);
+    }
+}
+
+// The lowest of some threads that is blocked, or their number.
 pub fn lowest_blocked(waits: &[u32], threads: usize) -> usize
     ensures { λ r. ⌜ r ≡ lowest (held (now (waits .entry))) threads ⌝ }
 {
     let mut t = 0;
     while t < threads {
-        if at(waits, t) != 0 {
+        if is_held(waits, t) {
             return t;
         }
         t += 1;
     }
     t
+}
+
+// Who is blocked.
+pub fn blocked_set(waits: &[u32]) -> Set
+    ensures { λ r. ⌜ r ≡ heldBelow (now (waits .entry)) mostThreads ⌝ }
+{
+    let mut blocked = Set::none();
+    let mut t = 0;
+    while t < Table::THREADS {
+        blocked = blocked.put(t, is_held(waits, t));
+        t += 1;
+    }
+    blocked
+}
+
+// Who is blocked then: only where threads were released is each one looked at.
+pub fn blocked_after(blocked: Set, waits: &[u32], t: usize, wait: u32, frees: u32) -> Set
+    ensures { λ r. ⌜ r ≡ heldAfter (now (waits .entry)) t wait frees blocked ⌝ }
+{
+    if frees == 0 {
+        return blocked.put(t, wait != 0);
+    }
+    blocked_set(waits)
 }

@@ -1,27 +1,30 @@
 -- `find_faults` meets its contract: refused, or looked over. Assumes nothing.
-use mathlib.Core.Path.{sym, _∙_}
+use mathlib.Core.Path.{_∙_}
 use borrow.Author.Needs.{needs}
-use borrow.Author.Tests.{eqb-true, eqb-false, not-true, not-false}
-use Rattle.rooms.proofs.Refusals.{admitted}
+use Rattle.verdicts.proofs.InOrder.{number-is, said-zero}
+use Rattle.rooms.proofs.Refusals.{ample}
 use Rattle.findings.proofs.Founds.{finds-refused, finds-looked}
 use Rattle.findings.proofs.finding.find_faults.Statement.{statement}
 use Rattle.findings.proofs.finding.find_faults.Tie as tie
 
 returns : tie.Need-returns
 returns c =
-    let k = c .before .refuse in
-    let i = c .before .before in
-    rw (c .bare .ensures) (finds-refused _ _ _ _ (k .result) (k .ensures) (eqb-false _ _ (sym (i .before .admits .ensures) ∙ not-true _ (i .if1 .taken))))
+    let n = c .before .before .before in
+    let k = n .before .refuse-sizes in
+    rw (c .bare .ensures) (finds-refused _ _ _ _ (k .result) (k .ensures) (λ e. c .before .if1 .taken (number-is (k .result) (n .number .ensures) ∙ e)))
 
 look-over-requires : tie.Need-look-over-requires
 look-over-requires c κs =
-    let A = admitted _ _ _ _ (eqb-true _ _ (sym (c .before .admits .ensures) ∙ not-false _ (c .if1 .left))) in
-    (A .keeps, A .generations-fit)
+    let n = c .before .before in
+    let k = n .before .refuse-sizes in
+    let A = ample _ _ _ (said-zero (k .result) (n .number .ensures) (k .ensures) (c .if1 .left)) in
+    (A .few-rows, A .generations-fit)
 
 returns-2 : tie.Need-returns-2
 returns-2 c =
-    let i = c .before in
-    finds-looked _ _ _ _ (eqb-true _ _ (sym (i .before .admits .ensures) ∙ not-false _ (i .if1 .left))) (c .look-over .ensures)
+    let n = c .before .before .before in
+    let k = n .before .refuse-sizes in
+    finds-looked _ _ _ _ (said-zero (k .result) (n .number .ensures) (k .ensures) (c .before .if1 .left)) (c .look-over .ensures)
 
 pub find-faults-spec : {M : Type 1} → statement M
 find-faults-spec =

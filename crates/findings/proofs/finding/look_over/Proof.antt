@@ -10,15 +10,14 @@ use Rattle.findings.proofs.finding.look_over.Statement.{statement}
 use Rattle.findings.proofs.finding.look_over.Tie as tie
 
 look-requires : tie.Need-look-requires
-look-requires c κs = let p = c .before .before .before .before .before .before .before .before .pre in (p .0 .few-rows, p .1)
+look-requires c κs = c .before .before .before .before .before .before .before .before .pre
 
 returns : tie.Need-returns
 unfolding mostRows
 returns c =
     let h = c .before .before .before in
     let s = h .before .before .before .before .before .before in
-    let K = s .pre .0 in
-    looked-over K (headed (omega (arith, K .adds-up, K .few-rows, length-replicate {A = ℕ} 512 0)) (h .put-heads .ensures))
+    looked-over (s .args .commands .now) (headed _ (omega (arith, s .pre .0, length-replicate {A = ℕ} 512 0)) (h .put-heads .ensures))
     (s .args .generations .now) (s .args .relation .now) (c .look .ensures)
 
 pub look-over-spec : {M : Type 1} → statement M

@@ -13,25 +13,25 @@ use Rattle.order.proofs.order.put_reached.Tie as tie
 
 choose-requires : tie.Need-choose-requires
 unfolding mostRows barriers
-choose-requires c κs = let R = c .before .before .before .before .before .before .before .before .pre in (R .keeps .few-rows, R .generations-fit, refl)
+choose-requires c κs = let R = c .before .before .before .before .before .before .before .before .pre in (R .few-rows, R .generations-fit, refl)
 
 put-pairs-requires : tie.Need-put-pairs-requires
 unfolding mostRows
-put-pairs-requires c κs = let R = c .before .before .before .before .before .before .before .before .before .before .before .before .before .before .pre in (R .keeps .few-rows, R .generations-fit, omega (arith, R .keeps .few-rows), search needs)
+put-pairs-requires c κs = let R = c .before .before .before .before .before .before .before .before .before .before .before .before .before .before .pre in (R .few-rows, R .generations-fit, omega (arith, R .few-rows), search needs)
 
 cast-put-reach : tie.Need-cast-put-reach
 unfolding mostRows
-cast-put-reach c = omega (arith, c .before .before .before .before .before .before .before .before .before .before .before .before .before .before .before .before .before .before .pre .keeps .few-rows)
+cast-put-reach c = omega (arith, c .before .before .before .before .before .before .before .before .before .before .before .before .before .before .before .before .before .before .pre .few-rows)
 
 array-share-prefix-pairs : tie.Need-array-share-prefix-pairs
 unfolding mostRows
-array-share-prefix-pairs c = let k = c .before .before .before .put-pairs in omega (arith, k .ensures .few, k .ensures .len, c .before .before .before .before .before .before .before .before .before .before .before .before .before .before .before .before .before .before .pre .keeps .few-rows)
+array-share-prefix-pairs c = let k = c .before .before .before .put-pairs in omega (arith, k .ensures .few, k .ensures .len, c .before .before .before .before .before .before .before .before .before .before .before .before .before .before .before .before .before .before .pre .few-rows)
 
 slice-aggregate-put-reach : tie.Need-slice-aggregate-put-reach
 unfolding mostRows
 slice-aggregate-put-reach c =
     let k = c .before .before .before .before .put-pairs in
-    sym (length-take-le (k .result * 2) _ (omega (arith, k .ensures .few, k .ensures .len, c .before .before .before .before .before .before .before .before .before .before .before .before .before .before .before .before .before .before .before .pre .keeps .few-rows)))
+    sym (length-take-le (k .result * 2) _ (omega (arith, k .ensures .few, k .ensures .len, c .before .before .before .before .before .before .before .before .before .before .before .before .before .before .before .before .before .before .before .pre .few-rows)))
 
 slice-aggregate-put-reach-2 : tie.Need-slice-aggregate-put-reach-2
 slice-aggregate-put-reach-2 c = sym (c .before .before .before .before .before .put-pairs .kept .1 .1 .1 .1 .1 .0)
@@ -41,10 +41,10 @@ unfolding mostRows
 returns c =
     let R = c .before .before .before .before .before .before .before .before .before .before .before .before .before .before .before .before .before .before .before .before .before .before .before .pre in
     let k = c .before .before .before .before .before .before .before .before .put-pairs in
-    listed-reached R
-    (headed (omega (arith, R .keeps .adds-up, R .keeps .few-rows, length-replicate {A = ℕ} 512 0)) (c .before .before .before .before .before .before .before .before .before .before .before .before .before .before .before .before .before .put-heads .ensures))
+    listed-reached (R .relation-fits)
+    (headed _ (omega (arith, R .few-rows, length-replicate {A = ℕ} 512 0)) (c .before .before .before .before .before .before .before .before .before .before .before .before .before .before .before .before .before .put-heads .ensures))
     (c .before .before .before .before .before .before .before .before .before .before .before .before .before .before .choose .ensures)
-    (omega (arith, k .ensures .few, k .ensures .len, R .keeps .few-rows))
+    (omega (arith, k .ensures .few, k .ensures .len, R .few-rows))
     (k .ensures)
     (c .before .before .put-reach .ensures)
 

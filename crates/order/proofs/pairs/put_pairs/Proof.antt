@@ -22,21 +22,25 @@ loop-holds c = (search needs, search needs, search needs, adds-none (λ i k B. o
 
 put-part-requires : tie.Need-put-part-requires Inv-loop μ-loop
 unfolding mostRows
-put-part-requires c κs = let l = c .before .before .before .loop in (l .inv .1, omega (arith, l .inv .0, l .inv .3 .few, c .before .before .before .before .before .before .before .before .pre .0))
+put-part-requires c κs =
+    let l = c .before .before .before .before .loop in
+    (l .inv .1, omega (arith, l .inv .0, l .inv .3 .few, c .before .before .before .before .before .before .before .before .before .pre .0))
 
 put-command-requires : tie.Need-put-command-requires Inv-loop μ-loop
 put-command-requires c κs =
-    let l = c .before .before .before .before .before .before .before .loop in
-    let s = c .before .before .before .before .before .before .before .before .before .before .before .before in (
+    let t = c .before .before .before .before .before .before .before in
+    let l = t .before .loop in
+    let s = t .before .before .before .before .before .before in (
       s .pre .0,
-      omega (arith, s .pre .2, c .before .before .before .before .before .before .loop-test .taken, l .inv .3 .few, l .inv .3 .len),
+      omega (arith, s .pre .2, t .loop-test .taken, l .inv .3 .few, l .inv .3 .len),
       record { there = search needs; whole = s .pre .1 },
     )
 
 loop-again : tie.Need-loop-again Inv-loop μ-loop
 loop-again c =
-    let l = c .before .before .before .before .before .before .before .before .before .before .loop in
-    let a = c .before .before .before .before .before .before .before .before .before .before .before .before .before .before .before .args in
+    let t = c .before .before .before .before .before .before .before .before .before .before in
+    let l = t .before .loop in
+    let a = t .before .before .before .before .before .before .args in
     let p = c .before .before .before .before .before .before .put-part in (
       search needs,
       omega (arith, p .ensures, p .kept .0),
@@ -63,8 +67,7 @@ put-pairs-spec =
     Inv-loop
     μ-loop
     loop-holds
-    (λ c. search needs)
-    (λ c. search needs)
+    (λ c κs. search needs)
     put-part-requires
     put-command-requires
     (λ c. search needs)

@@ -1,9 +1,8 @@
 -- `conclude` meets its contract: 5 and 7 stand before 6, 8 and 9. Assumes nothing.
-use mathlib.Core.Path.{sym, _∙_}
+use mathlib.Core.Path.{_∙_}
 use borrow.Author.Needs.{needs}
-use Rattle.verdicts.proofs.Verdicts.{zero-clean}
-use Rattle.replay.specs.Ending.{ended, judged}
-use Rattle.replay.proofs.Refusals.{number-is, said-first, said-second}
+use Rattle.steps.specs.Ending.{ended, judged}
+use Rattle.verdicts.proofs.InOrder.{said-first, said-second}
 use Rattle.replay.proofs.offered.conclude.Statement.{statement}
 use Rattle.replay.proofs.offered.conclude.Tie as tie
 
@@ -13,12 +12,6 @@ returns c =
     let n = c .before .before in
     said-first (n .before .before .args .replayed .verdict) (n .number .ensures) (ended _ _ _) (c .if1 .taken)
 
-ending-requires : tie.Need-ending-requires
-ending-requires c κs =
-    let n = c .before .before in
-    let v = n .before .before .args .replayed .verdict in
-    n .before .before .pre .ends (zero-clean v (sym (number-is v (n .number .ensures)) ∙ c .if1 .left))
-
 returns-2 : tie.Need-returns-2
 unfolding judged
 returns-2 c =
@@ -26,4 +19,4 @@ returns-2 c =
     c .ending .ensures ∙ said-second (n .before .before .args .replayed .verdict) (n .number .ensures) (ended _ _ _) (c .before .if1 .left)
 
 pub conclude-spec : {M : Type 1} → statement M
-conclude-spec = tie.close (tie.spec (λ c κs. search needs) returns ending-requires returns-2)
+conclude-spec = tie.close (tie.spec (λ c κs. search needs) returns (λ c κs. search needs) returns-2)

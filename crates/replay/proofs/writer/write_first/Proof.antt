@@ -1,8 +1,13 @@
 -- `write_first` meets its contract: each refusal from the test that found it, with the room as it was, or the schedule. Assumes nothing.
-use mathlib.Core.Path.{refl, _∙_}
+use mathlib.Core.Path.{refl, sym, _∙_}
 use borrow.Author.Needs.{needs}
-use Rattle.replay.proofs.Refusals.{number-is, passed, unwritten-tables, unwritten-room, unwritten-none}
+use lib.Seq.{length-take-le}
+use Rattle.verdicts.proofs.Verdicts.{zero-told}
+use Rattle.verdicts.proofs.InOrder.{number-is, said-zero}
+use Rattle.rules.proofs.Checked.{passed}
+use Rattle.replay.proofs.Refusals.{unwritten-tables, unwritten-room, writer-fits}
 use Rattle.replay.proofs.Writing.{first-complete}
+use Rattle.replay.proofs.Written.{wrote-first}
 use Rattle.replay.proofs.writer.write_first.Statement.{statement}
 use Rattle.replay.proofs.writer.write_first.Tie as tie
 
@@ -19,31 +24,38 @@ returns c =
 
 returns-2 : tie.Need-returns-2
 returns-2 c =
-    let n = c .before .before .before in
+    let r = c .before .before .before in
+    let n = c .before .before .before .before .before .before .before in
     let k = n .before .check-tables in
     record {
-      verdict = unwritten-room _ _ (k .result) (k .ensures) (n .number .ensures) _ (c .before .if1 .left) (c .if2 .taken);
+      verdict = r .short-room .ensures ∙ unwritten-room _ _ (k .result) (k .ensures) (n .number .ensures) _ (c .before .before .before .before .before .if1 .left);
       refused = λ _. (refl, refl);
-      wrote = λ e. absurd (search needs);
-      complete = λ e. absurd (search needs);
+      wrote = λ e. absurd (c .if2 .taken (number-is (r .short-room .result) (c .before .before .number2 .ensures) ∙ e));
+      complete = λ e. absurd (c .if2 .taken (number-is (r .short-room .result) (c .before .before .number2 .ensures) ∙ e));
     }
 
-write-requires : tie.Need-write-requires
-write-requires c κs =
-    let n = c .before .before .before .before in
-    let k = n .before .check-tables in
-    record { keeps = passed _ _ (k .result) (k .ensures) (n .number .ensures) (c .before .before .if1 .left); fits = search needs }
+slice-relend-prefix-write-on : tie.Need-slice-relend-prefix-write-on
+slice-relend-prefix-write-on c = writer-fits _ _ (said-zero (c .before .before .before .before .short-room .result) (c .before .before .before .number2 .ensures) (c .before .before .before .before .short-room .ensures) (c .before .if2 .left))
+
+slice-aggregate-write-on : tie.Need-slice-aggregate-write-on
+slice-aggregate-write-on c = sym (length-take-le _ _ (writer-fits _ _ (said-zero (c .before .before .before .before .before .short-room .result) (c .before .before .before .before .number2 .ensures) (c .before .before .before .before .before .short-room .ensures) (c .before .before .if2 .left))))
 
 returns-3 : tie.Need-returns-3
 returns-3 c =
-    let w = c .before .before in
-    let n = w .before .before .before .before .before in
+    let a = c .before .before .before .before .before .before .before .before .before .before .before .before .before .before .before .before .before .before .args in
+    let n = c .before .before .before .before .before .before .before .before .before .before .before .before in
     let k = n .before .check-tables in
+    let passes = c .before .before .before .before .before .before .before .before .before .before .if1 .left in
+    let short = c .before .before .before .before .before .before .before .before .short-room in
+    let told = c .before .before .before .before .before .before .before .number2 .ensures in
+    let room = writer-fits _ _ (said-zero (c .before .before .before .before .before .before .before .before .short-room .result) (c .before .before .before .before .before .before .before .number2 .ensures) (c .before .before .before .before .before .before .before .before .short-room .ensures) (c .before .before .before .before .before .if2 .left)) in
     record {
-      verdict = unwritten-none _ _ (k .result) (k .ensures) (n .number .ensures) _ (w .before .before .before .if1 .left) (search needs);
+      verdict =
+          sym (zero-told (short .result) (sym (number-is (short .result) told) ∙ c .before .before .before .before .before .if2 .left)) ∙ short .ensures
+          ∙ unwritten-room _ _ (k .result) (k .ensures) (n .number .ensures) _ passes;
       refused = λ h. absurd (h refl);
-      wrote = λ _. w .write .ensures;
-      complete = λ _. first-complete (passed _ _ (k .result) (k .ensures) (n .number .ensures) (w .before .before .before .if1 .left)) _;
+      wrote = λ _. wrote-first (a .early .now) (a .commands .now) (a .lengths .now) (a .room .now) (c .before .before .before .before .start .ensures) room (c .before .before .write-on .ensures);
+      complete = λ _. first-complete (passed _ _ (k .result) (k .ensures) (n .number .ensures) passes) _;
     }
 
 pub write-first-spec : {M : Type 1} → statement M
@@ -53,7 +65,13 @@ write-first-spec =
     (λ c κs. search needs)
     (λ c κs. search needs)
     returns
+    (λ c. search needs)
+    (λ c κs. search needs)
+    (λ c κs. search needs)
     returns-2
-    write-requires
+    (λ c κs. search needs)
+    slice-relend-prefix-write-on
+    slice-aggregate-write-on
+    (λ c κs. search needs)
     (λ c. search needs)
     returns-3)

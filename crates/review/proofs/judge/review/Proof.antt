@@ -1,7 +1,7 @@
 -- `review` meets its contract: refused and judged before a room is touched; or the generations and happens-before are put, and faults are looked for over them. Assumes nothing.
 use mathlib.Core.Path.{sym, _∙_}
 use borrow.Author.Needs.{needs}
-use Rattle.replay.proofs.Refusals.{number-is, said-zero}
+use Rattle.verdicts.proofs.InOrder.{number-is, said-zero}
 use Rattle.rooms.proofs.Refusals.{admitted}
 use Rattle.review.proofs.Reviews.{reviewed-refused, reviewed-judged, reviewed-filled}
 use Rattle.review.proofs.judge.review.Statement.{statement}

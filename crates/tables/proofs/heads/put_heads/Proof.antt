@@ -1,4 +1,5 @@
--- `put_heads` meets its contract: the threads before the one that the loop has come to have their heads. Assumes nothing.
+-- `put_heads` meets its contract: the threads before the one that the loop has come to have their heads, and after them what is left of the room. Assumes nothing.
+use mathlib.Core.Path.{refl}
 use Prim.Native.Nat.{_-_}
 use native.Mathlib.Omega.{arith}
 use lib.ListN.{length}
@@ -8,10 +9,10 @@ use Rattle.tables.proofs.heads.put_heads.Statement.{statement}
 use Rattle.tables.proofs.heads.put_heads.Tie as tie
 
 abbrev Inv-loop : tie.InvT-loop
-Inv-loop lengths heads₀ head₀ t₀ heads head t = Begun lengths t head heads₀ heads
+Inv-loop lengths heads₀ room head₀ t₀ heads head t = Begun lengths t head heads₀ heads
 
 abbrev μ-loop : tie.MeasureT-loop
-μ-loop lengths heads₀ head₀ t₀ heads head t = length lengths - t
+μ-loop lengths heads₀ room head₀ t₀ heads head t = length lengths - t
 
 loop-holds : tie.Need-loop-holds Inv-loop μ-loop
 loop-holds c = begun-none _ _
@@ -27,7 +28,7 @@ loop-again c =
     begun-more (search needs) (search needs) (search needs) (c .before .before .before .before .before .before .before .loop .inv) (c .before .before .fill .ensures)
 
 returns : tie.Need-returns Inv-loop μ-loop
-returns c = begun-all (search needs) (c .before .loop .inv)
+returns c = begun-all (search needs) refl (c .before .before .before .before .before .loop .inv) (c .before .before .fill2 .ensures)
 
 pub put-heads-spec : {M : Type 1} → statement M
 put-heads-spec =
@@ -45,5 +46,6 @@ put-heads-spec =
     (λ c. search needs)
     (λ c. search needs)
     loop-again
+    (λ c κs. search needs)
     (λ c. search needs)
     returns)

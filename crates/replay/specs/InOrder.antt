@@ -1,8 +1,0 @@
--- Verdicts in the order tested.
-use mathlib.Core.Bool.{cond}
-use lib.Dec.{eqb}
-use Rattle.verdicts.specs.declared.Told.{Told}
-
--- the first verdict unless its number is 0, and then the second
-abbrev pub orElse : Told → Told → Told
-orElse a b = cond (eqb (a .number) 0) b a

@@ -1,0 +1,39 @@
+-- A barrier is either unset or expects a count, with what has registered so far.
+use mathlib.Core.Bool.{Bool, true, false, cond, not}
+use Prim.Native.Nat.{ℕ}
+use lib.Dec.{eqb}
+use Rattle.turns.specs.Counting.{counted}
+use Rattle.steps.specs.declared.barrier.Phase.{Phase}
+use Rattle.steps.specs.declared.barrier.Phase.the-variants.{Unset, Expecting}
+use Rattle.steps.specs.declared.barrier.Barrier.{Barrier}
+use Rattle.steps.specs.declared.barrier.Met.the-variants.{Clash, Stays, Completes}
+use Rattle.steps.specs.declared.barrier.Registration.{Registration}
+
+-- what has registered so far
+abbrev pub soFar : Phase → ℕ
+soFar Unset = 0
+soFar (Expecting count got) = got
+
+abbrev pub isSet : Phase → Bool
+isSet Unset = false
+isSet (Expecting count got) = true
+
+-- What a barrier refuses. The first to register sets the expected count; a different count later is a mismatch.
+abbrev pub refuses : Phase → ℕ → Bool
+refuses Unset n = false
+refuses (Expecting count got) n = not (eqb count n)
+
+abbrev pub unset : ℕ → Barrier
+unset done = record { phase = Unset; done = done }
+
+abbrev pub expecting : ℕ → ℕ → ℕ → Barrier
+expecting count got done = record { phase = Expecting count got; done = done }
+
+-- One more registers where `got` have. When registrations reach the count, the barrier is unset and one more generation of it has completed.
+abbrev pub oneMore : ℕ → ℕ → ℕ → Registration
+oneMore count got done =
+    cond (eqb (counted got) count) (record { met = Completes; after = unset (counted done) }) (record { met = Stays; after = expecting count (counted got) done })
+
+-- A command of this count registers: what it meets, and the barrier after it.
+unfoldable pub registration : Barrier → ℕ → Registration
+registration b count = cond (refuses (b .phase) count) (record { met = Clash; after = b }) (oneMore count (soFar (b .phase)) (b .done))

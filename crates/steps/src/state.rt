@@ -1,0 +1,30 @@
+// The replay state: one value, which each step takes and returns.
+ghost use mathlib.Core.Path.{_≡_};
+ghost use Rattle.steps.specs.State.{start};
+use crate::barrier::Barrier;
+use crate::barrier::Phase;
+use tables::Table;
+
+// How many commands each thread has run; what it waits for, 0 or the barrier plus 1; the barriers.
+pub struct Replay {
+    pub(crate) next: [u32; Table::THREADS],
+    pub(crate) waits: [u32; Table::THREADS],
+    pub(crate) barriers: [Barrier; Table::BARRIERS],
+}
+
+impl Replay {
+    // All barriers unset, all threads unblocked, nothing run.
+    pub fn start() -> Self
+        ensures { λ r. ⌜ r ≡ start ⌝ }
+    {
+        let unset = Barrier {
+            phase: Phase::Unset,
+            done: 0,
+        };
+        Replay {
+            next: [0u32; Table::THREADS],
+            waits: [0u32; Table::THREADS],
+            barriers: [unset; Table::BARRIERS],
+        }
+    }
+}
