@@ -1,7 +1,6 @@
 -- What is told fits the places of an answer room: no cast loses a bit. Assumes nothing.
 use mathlib.Core.Path.{_≡_, refl, sym, ap, _∙_}
 use mathlib.Core.Logic.{by-cases, _≢_}
-use mathlib.Core.Bool.{Bool, true, false, cond}
 use mathlib.Core.List.{List, []}
 use Prim.Native.Nat.{ℕ, _≤_}
 use native.Mathlib.Decide.{ℕ-discrete}
@@ -10,7 +9,7 @@ use lib.ListN.{length}
 use Rattle.tables.specs.Limits.{mostRows, mostThreads}
 use Rattle.tables.specs.Rows.{rows}
 use Rattle.rules.specs.Rules.{checked}
-use Rattle.verdicts.specs.Verdicts.{tell, numbered}
+use Rattle.verdicts.specs.Verdicts.{numbered}
 use Rattle.verdicts.specs.declared.Told.{Told}
 use Rattle.grammar.specs.Grammar.{allCommands, threads}
 use Rattle.notation.specs.Reading.{mostBytes, answered, restAt}

@@ -1,5 +1,5 @@
 -- What is told of a replay: 5 to 9, or 0, and 0 only where it ended clean. Assumes nothing.
-use mathlib.Core.Path.{_≡_, refl, sym, ap, _∙_}
+use mathlib.Core.Path.{_≡_, refl, ap, _∙_}
 use mathlib.Core.Logic.{by-cases, _≢_}
 use mathlib.Core.Bool.{Bool, true, false, cond}
 use mathlib.Core.List.{List, []}
@@ -13,7 +13,6 @@ use Rattle.tables.specs.Limits.{barriers}
 use Rattle.rules.specs.Rules.{Keeps}
 use Rattle.verdicts.specs.Verdicts.{tell, numbered}
 use Rattle.verdicts.specs.Numbers.{isEnding}
-use Rattle.verdicts.specs.declared.Told.{Told}
 use Rattle.verdicts.specs.declared.Verdict.{Verdict}
 use Rattle.verdicts.specs.declared.Verdict.the-variants as verdict
 use Rattle.tables.proofs.Lowest.{lowest-miss}

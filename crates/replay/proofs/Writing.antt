@@ -1,15 +1,12 @@
 -- The schedule of a choice that lets an allowed thread step where there is one is legal and complete. Assumes nothing.
-use mathlib.Core.Path.{_≡_, refl, sym, ap, _∙_, subst}
-use mathlib.Core.Logic.{⊎-elim, _≢_}
+use mathlib.Core.Path.{_≡_, subst}
+use mathlib.Core.Logic.{⊎-elim}
 use mathlib.Core.Bool.{Bool, true, false, cond}
-use mathlib.Core.List.{List, [], _∷_, _++_, reverseAux, reverse-reverse, append-nil, append-assoc}
+use mathlib.Core.List.{List, [], _∷_, reverseAux, reverse-reverse}
 use Prim.Native.Nat.{ℕ, zero, suc, _+_, _-_, _≤_, _<_}
 use native.Mathlib.Omega.{arith}
-use native.Mathlib.Numerals.{add-one}
 use lib.Dec.{ltb}
-use lib.ListN.{length, set, drop, length-append, length-drop}
-use lib.Seq.{set-at, drop-cons}
-use borrow.Author.Tests.{lt-ltb, le-ltb}
+use lib.ListN.{length}
 use Rattle.tables.specs.Rows.{rows}
 use Rattle.rules.specs.Rules.{Keeps}
 use Rattle.tables.proofs.Lowest.{lowest-first, lowest-hit, lowest-miss}
@@ -17,12 +14,11 @@ use Rattle.relation.proofs.Truth.{split, clashing, both}
 use Rattle.schedules.specs.Machine.{Program}
 use Rattle.schedules.specs.Threads as threads
 use Rattle.steps.specs.declared.state.Replay.{Replay}
-use Rattle.steps.specs.declared.step.Stepped.{Stepped}
 use Rattle.steps.specs.State.{start}
 use Rattle.steps.specs.Step.{allowed, stepped}
 use Rattle.steps.specs.Ending.{lowestAllowed}
 use Rattle.replay.specs.Program.{program}
-use Rattle.steps.specs.Writing.{goesOn, stepping, FilledBy, picked, lowestPicked, pickedFirst}
+use Rattle.steps.specs.Writing.{goesOn, stepping, picked, lowestPicked, pickedFirst}
 use Rattle.replay.specs.Writer.{scheduleBy, schedule}
 use Rattle.replay.specs.Schedules.{Complete}
 use Rattle.replay.proofs.Programs as programs

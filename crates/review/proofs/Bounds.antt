@@ -1,7 +1,7 @@
 -- How large the numbers of a review's answer are, and what is told in rooms for the longest tables. Assumes nothing.
-use mathlib.Core.Path.{_≡_, sym, _∙_, subst}
+use mathlib.Core.Path.{_≡_, sym, subst}
 use mathlib.Core.Logic.{by-cases, ⊎-elim, _≢_}
-use mathlib.Core.Bool.{Bool, true, false}
+use mathlib.Core.Bool.{Bool, true}
 use mathlib.Core.List.{List, [], _∷_}
 use Prim.Native.Nat.{ℕ, zero, suc, _*_, _≤_, _<_}
 use native.Mathlib.Decide.{ℕ-discrete}
@@ -22,7 +22,7 @@ use Rattle.relation.proofs.Truth.{clashing, split}
 use Rattle.verdicts.specs.InOrder.{orElse}
 use Rattle.steps.specs.Going.{played}
 use Rattle.steps.specs.Ending.{judged}
-use Rattle.verdicts.proofs.InOrder.{or-first, or-second, or-either}
+use Rattle.verdicts.proofs.InOrder.{or-first, or-either}
 use Rattle.replay.proofs.Judged.{judged-ending}
 use Rattle.replay.proofs.Places.{Placed, placed, checked-placed, judged-placed, complete-told}
 use Rattle.replay.specs.Schedules.{Complete}

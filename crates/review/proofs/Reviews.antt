@@ -8,7 +8,6 @@ use native.Mathlib.Omega.{arith}
 use lib.ListN.{length, getD}
 use borrow.Author.Tests.{eq-eqb}
 use Rattle.tables.specs.Rows.{rows}
-use Rattle.rules.specs.Rules.{checked}
 use Rattle.verdicts.specs.Verdicts.{tell, numbered}
 use Rattle.verdicts.specs.Numbers.{isRefusal, isEnding, fills, isVerdict}
 use Rattle.verdicts.specs.declared.Told.{Told}

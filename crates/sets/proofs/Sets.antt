@@ -2,23 +2,22 @@
 use mathlib.Core.Path.{_≡_, refl, sym, ap, _∙_}
 use mathlib.Core.Logic.{by-cases, ⊎-elim, _≢_}
 use mathlib.Core.Bool.{Bool, true, false, cond, not, _&&_}
-use mathlib.Core.List.{List}
-use Prim.Native.Nat.{ℕ, _+_, _*_, _/_, _%_, _^_, _≤_, _<_}
+use Prim.Native.Nat.{ℕ, _+_, _*_, _%_, _^_, _≤_, _<_}
 use native.Mathlib.Omega.{arith}
-use native.Mathlib.Decide.{decLt, ℕ-discrete}
+use native.Mathlib.Decide.{decLt}
 use lib.Bits.{bitAnd, bitXor}
 use lib.Count.{trailingZeros}
 use lib.Dec.{eqb, ltb}
 use lib.ListN.{length, getD, length-set, length-replicate}
-use borrow.Author.Tests.{lt-ltb, le-ltb, eq-eqb, ne-eqb}
+use borrow.Author.Tests.{lt-ltb, le-ltb, ne-eqb}
 use Rattle.relation.specs.Bits.{bitOf}
 use Rattle.relation.proofs.Words.{except-bit, zero-bit}
-use Rattle.relation.proofs.Truth.{split, clashing}
+use Rattle.relation.proofs.Truth.{split}
 use Rattle.tables.specs.Limits.{mostThreads}
 use Rattle.tables.specs.Lowest.{lowest}
-use Rattle.tables.proofs.Lowest.{Lowest, lowest-first, lowest-is}
+use Rattle.tables.proofs.Lowest.{lowest-first, lowest-is}
 use Rattle.sets.specs.declared.Set.{Set}
-use Rattle.sets.specs.Words.{member, putAt}
+use Rattle.sets.specs.Words.{putAt}
 use Rattle.sets.specs.Set.{setWords, has, none, put, hasBut, lowestBut}
 use Rattle.sets.proofs.Words.{member-none, member-put, member-at, trailing-lowest, trailing-some}
 
@@ -42,11 +41,6 @@ pub sized-put : (s : Set) → Sized s → (t : ℕ) (on : Bool) → Sized (put s
 unfolding put putAt
 sized-put s z t on =
     ⊎-elim (λ (e : ltb t mostThreads ≡ true). rw e (length-set (s .words) _ _ ∙ z)) (λ (e : ltb t mostThreads ≡ false). rw e z) (split (ltb t mostThreads))
-
--- no number past the limit is in it
-pub has-past : (s : Set) (t : ℕ) → mostThreads ≤ t → has s t ≡ false
-unfolding has
-has-past s t l = rw (le-ltb t mostThreads l)
 
 -- t is in it, or not, and the others as before
 pub has-put : (s : Set) → Sized s → (t u : ℕ) (on : Bool) → t < mostThreads → has (put s t on) u ≡ cond (eqb u t) on (has s u)

@@ -1,21 +1,20 @@
 -- Laws of sets as lists of words, over any number of words. Assumes nothing.
 use mathlib.Core.Path.{_≡_, refl, sym, ap, _∙_}
-use mathlib.Core.Logic.{by-cases, ⊎-elim, _≢_}
+use mathlib.Core.Logic.{by-cases, _≢_}
 use mathlib.Core.Bool.{Bool, true, false, cond, not, _&&_, _||_}
 use mathlib.Core.List.{List}
 use Prim.Native.Nat.{ℕ, zero, suc, _+_, _*_, _/_, _%_, _^_, _≤_, _<_}
 use native.Mathlib.Nat.{mod-lt}
 use native.Mathlib.Omega.{arith}
 use native.Mathlib.Decide.{decLt, ℕ-discrete}
-use lib.Count.{trailingZeros, trailing-le, under}
-use lib.Dec.{lit<, eqb, ltb}
+use lib.Count.{trailingZeros}
+use lib.Dec.{lit<, eqb}
 use lib.Pow.{pow-pos}
-use lib.ListN.{List·getD-eq-default, length, getD, set, replicate, length-replicate, getD-replicate}
-use lib.Seq.{getD-set-same, getD-set-other, set-out}
-use borrow.Author.Tests.{eq-eqb, ne-eqb, lt-ltb}
+use lib.ListN.{List·getD-eq-default, length, getD, replicate, length-replicate, getD-replicate}
+use lib.Seq.{getD-set-same, getD-set-other}
+use borrow.Author.Tests.{eq-eqb, ne-eqb}
 use Rattle.relation.specs.Bits.{bitOf}
 use Rattle.relation.proofs.Words.{or-bit, except-bit, zero-bit, bit-half, bit-zero, own-bit, other-bit, same-word}
-use Rattle.relation.proofs.Truth.{clashing, split}
 use Rattle.tables.specs.Lowest.{lowest}
 use Rattle.tables.proofs.Lowest.{Lowest, lowest-is}
 use Rattle.sets.specs.Words.{member, putBit, putAt}
@@ -86,11 +85,6 @@ trailing-some k w h n =
     (λ (l : ¬ (trailingZeros k w < k)). absurd (n (same-word k w 0 h (pow-pos k) (λ j m. L .below j (omega (arith, L .at-most)) ∙ sym (zero-bit j)))))
 
 -- ---- a list of words
-
--- past the last word there is nothing
-pub member-out : (ws : List ℕ) (t : ℕ) → 64 * length ws ≤ t → member ws t ≡ false
-unfolding member
-member-out ws t h = let l : length ws ≤ t / 64 = omega arith in rw (List·getD-eq-default ws 0 l) (zero-bit (t % 64))
 
 pub member-none : (n t : ℕ) → member (replicate n 0) t ≡ false
 unfolding member

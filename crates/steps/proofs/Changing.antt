@@ -1,9 +1,9 @@
 -- What a step changes, stored, is what it does. Assumes nothing.
 use mathlib.Core.Path.{_≡_, refl, sym, ap, _∙_}
-use mathlib.Core.Bool.{Bool, true, false, cond, _&&_}
+use mathlib.Core.Bool.{Bool, true, false, _&&_}
 use mathlib.Core.List.{List}
-use mathlib.Core.Logic.{⊎-elim, by-cases, _≢_}
-use Prim.Native.Nat.{ℕ, _+_, _≤_, _<_}
+use mathlib.Core.Logic.{⊎-elim, by-cases}
+use Prim.Native.Nat.{ℕ, _+_, _<_}
 use native.Mathlib.Decide.{decLt}
 use native.Mathlib.Omega.{arith}
 use lib.Dec.{eqb}
@@ -22,14 +22,12 @@ use Rattle.steps.specs.declared.barrier.Registration.{Registration}
 use Rattle.steps.specs.declared.change.Change.{Change}
 use Rattle.steps.specs.declared.row.Row.{Row}
 use Rattle.steps.specs.declared.state.Replay.{Replay}
-use Rattle.steps.specs.declared.step.Did.{Did}
-use Rattle.steps.specs.declared.step.Stepped.{Stepped}
 use Rattle.turns.specs.Counting.{counted}
 use Rattle.steps.specs.Barrier.{unset, registration}
 use Rattle.steps.specs.State.{ranSoFar, waiting, barrierAt}
 use Rattle.steps.specs.Step.{enters, syncs, allowed, command, meeting, registering, running, stepped}
 use Rattle.steps.specs.Writing.{goesOn}
-use Rattle.steps.specs.Change.{plainRow, rowAt, threadRow, waitIf, changing, changed, applied}
+use Rattle.steps.specs.Change.{rowAt, threadRow, changing, changed, applied}
 
 set-none : (waits : List ℕ) (t : ℕ) → getD waits t 0 ≡ 0 → set waits t 0 ≡ waits
 set-none waits t e = ap (set waits t) (sym e) ∙ set-getD waits t 0

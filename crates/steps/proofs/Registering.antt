@@ -1,11 +1,11 @@
 -- What a registration meets and what a row changes, from the tests. Assumes nothing.
-use mathlib.Core.Path.{_≡_, refl, sym, ap, _∙_}
-use mathlib.Core.Bool.{Bool, true, false, _&&_}
+use mathlib.Core.Path.{_≡_, sym, _∙_}
+use mathlib.Core.Bool.{Bool, true, false}
 use mathlib.Core.List.{List}
 use mathlib.Core.Logic.{⊎-elim, _≢_}
 use Prim.Native.Nat.{ℕ, _+_, _≤_, _<_}
 use native.Mathlib.Omega.{arith}
-use lib.Dec.{eqb, leb, ltb}
+use lib.Dec.{eqb, ltb}
 use borrow.Author.Tests.{eq-eqb, ne-eqb, lt-ltb, le-ltb, le-leb, lt-leb, ltb-true}
 use Rattle.relation.proofs.Truth.{split, both}
 use Rattle.tables.specs.Limits.{barriers}
@@ -16,7 +16,6 @@ use Rattle.steps.specs.declared.barrier.Phase.the-variants.{Unset, Expec
 use Rattle.steps.specs.declared.barrier.Barrier.{Barrier}
 use Rattle.steps.specs.declared.barrier.Met.the-variants.{Clash, Stays, Completes}
 use Rattle.steps.specs.declared.barrier.Registration.{Registration}
-use Rattle.steps.specs.declared.change.Change.{Change}
 use Rattle.steps.specs.declared.row.Row.{Row}
 use Rattle.steps.specs.declared.step.How.the-variants.{Mismatch, Ran}
 use Rattle.steps.specs.declared.step.Did.the-variants.{NotAllowed, Took}

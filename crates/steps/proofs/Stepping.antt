@@ -21,14 +21,13 @@ use Rattle.steps.specs.declared.change.Change.{Change}
 use Rattle.steps.specs.declared.row.Row.{Row}
 use Rattle.steps.specs.declared.state.Replay.{Replay}
 use Rattle.steps.specs.declared.step.Did.{Did}
-use Rattle.steps.specs.declared.step.Stepped.{Stepped}
 use Rattle.turns.specs.Counting.{counted}
 use Rattle.steps.specs.Barrier.{registration}
 use Rattle.steps.specs.State.{ranSoFar, waiting, barrierAt}
 use Rattle.steps.specs.Step.{registering, stepped}
 use Rattle.steps.specs.Writing.{goesOn}
 use Rattle.steps.specs.Change.{threadRow, changed, applied, FirstRows}
-use Rattle.steps.proofs.Changing.{May, may, stepRow, stepChange, goes-allowed, step-did, step-kept, step-after, row-is, change-is, row-command, goes-so}
+use Rattle.steps.proofs.Changing.{May, stepRow, stepChange, goes-allowed, step-did, step-kept, step-after, row-is, change-is, row-command, goes-so}
 
 -- The row and the change of thread t's step are found.
 pub record Found (commands lengths : List ℕ) (s : Replay) (t : ℕ) (row : Row) (made : Change) : Type 0 where

@@ -1,17 +1,16 @@
 -- The loop of the schedule writer: after i steps the room has what they are, and the rest of the schedule is what is written from the state. Assumes nothing.
 use mathlib.Core.Path.{_≡_, refl, sym, ap, _∙_}
-use mathlib.Core.Bool.{Bool, true, false, cond, _&&_}
+use mathlib.Core.Bool.{Bool, true, false}
 use mathlib.Core.List.{List, [], _∷_, _++_, append-nil, append-assoc}
 use Prim.Native.Nat.{ℕ, suc, _+_, _-_, _≤_, _<_}
 use native.Mathlib.Numerals.{add-one}
 use native.Mathlib.Omega.{arith}
 use lib.Dec.{ltb}
-use lib.ListN.{length, getD, set, drop, length-append, length-drop, length-set, length-map}
+use lib.ListN.{length, set, drop, length-append, length-set, length-map}
 use lib.Seq.{set-at, drop-cons}
-use borrow.Author.Tests.{lt-ltb, le-ltb}
+use borrow.Author.Tests.{le-ltb}
 use Rattle.relation.proofs.Truth.{both}
 use Rattle.tables.specs.Limits.{mostThreads}
-use Rattle.tables.specs.Rows.{firstRow}
 use Rattle.sets.specs.declared.Set.{Set}
 use Rattle.sets.specs.Set.{hasBut}
 use Rattle.turns.specs.declared.ready.Ready.{Ready}
@@ -25,7 +24,6 @@ use Rattle.steps.specs.declared.state.Replay.{Replay}
 use Rattle.steps.specs.State.{ranSoFar}
 use Rattle.steps.specs.Step.{allowed, command, stepped}
 use Rattle.steps.specs.Writing.{goesOn, stepping, picked, pickedFirst, writes, FilledBy}
-use Rattle.steps.specs.Change.{applied}
 use Rattle.steps.proofs.Stepping.{Found, found-did, found-after, found-command, stored}
 
 module _ (early : List Bool) (commands lengths before : List ℕ) (from : Replay) where
@@ -48,10 +46,6 @@ module _ (early : List Bool) (commands lengths before : List ℕ) (from : Replay
       record { next-long = ln; waits-long = lw; kept = K; front = []; long = refl; within = omega arith; room-is = refl; rest-is = rw z }
 
   module _ {room : List ℕ} {s : Replay} {r : Ready} {blocked : Set} {i : ℕ} (W : Writing room s r blocked i) where
-    -- the room is as long as it was
-    pub writing-long : length room ≡ length before
-    writing-long = omega (arith, ap length (W .room-is), length-append (W .front) (drop i before), length-drop i before, W .long, W .within)
-
     filled : stepping choose commands lengths (length before - i) s ≡ [] → FilledBy (writes early commands lengths (length before) from) before room i
     filled e =
         let f : writes early commands lengths (length before) from ≡ W .front = W .rest-is ∙ ap (λ (l : List ℕ). W .front ++ l) e ∙ append-nil (W .front) in

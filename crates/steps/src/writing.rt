@@ -1,5 +1,4 @@
 // The schedule that a choice writes, from any state.
-ghost use mathlib.Core.Path.{_≡_};
 ghost use lib.ListN.{length};
 ghost use Rattle.tables.specs.Limits.{mostThreads};
 ghost use Rattle.turns.proofs.Kept.{LookedBelow};

@@ -1,7 +1,7 @@
 -- The sets that a schedule writer keeps: they are gathered thread by thread, and say of each thread what the lists say. Assumes nothing.
 use mathlib.Core.Path.{_≡_, refl, sym, ap, ap₂, subst, _∙_}
-use mathlib.Core.Bool.{Bool, true, false, cond, not, _&&_}
-use mathlib.Core.List.{List, map}
+use mathlib.Core.Bool.{Bool, true, false, not, _&&_}
+use mathlib.Core.List.{List}
 use mathlib.Core.Logic.{by-cases, ⊎-elim, _≢_}
 use Prim.Native.Nat.{ℕ, zero, suc, _+_, _≤_, _<_}
 use native.Mathlib.Decide.{decLt, ℕ-discrete}
@@ -18,7 +18,7 @@ use Rattle.tables.specs.Rows.{firstRow}
 use Rattle.tables.proofs.Lowest.{lowest-first, lowest-is}
 use Rattle.sets.specs.declared.Set.{Set}
 use Rattle.sets.specs.Set.{has, none, put, hasBut}
-use Rattle.sets.proofs.Sets.{Sized, has-none, has-past, has-put, sized-none, sized-put}
+use Rattle.sets.proofs.Sets.{Sized, has-none, has-put, sized-none, sized-put}
 use Rattle.turns.specs.declared.ready.Ready.{Ready}
 use Rattle.turns.specs.Turns.{held, released, settled, hasLeft, mayStep, goesFirst, lowestOr}
 use Rattle.turns.specs.Ready.{noneReady, looked, heldBelow, heldAfter}

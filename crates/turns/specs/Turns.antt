@@ -1,12 +1,11 @@
 -- Whose turn it is. Of each thread two lists say how many commands it has run (next), and what it waits for (waits): 0, or the barrier plus 1. A number past the limit is no thread.
 use mathlib.Core.Bool.{Bool, false, cond, not, _&&_}
 use mathlib.Core.List.{List, map}
-use Prim.Native.Nat.{ℕ, _+_}
+use Prim.Native.Nat.{ℕ}
 use lib.Dec.{eqb, ltb}
 use lib.ListN.{length, getD, set}
 use Rattle.tables.specs.Limits.{mostThreads}
 use Rattle.tables.specs.Lowest.{lowest}
-use Rattle.tables.specs.Rows.{firstRow}
 
 -- ---- who waits
 

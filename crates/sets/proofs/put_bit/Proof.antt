@@ -1,6 +1,5 @@
 -- `put_bit` meets its contract, by the test. Assumes nothing.
 use borrow.Author.Needs.{needs}
-use native.Mathlib.Omega.{arith}
 use Rattle.relation.proofs.Words.{one-shl}
 use Rattle.sets.specs.Words.{putBit}
 use Rattle.sets.proofs.put_bit.Statement.{statement}

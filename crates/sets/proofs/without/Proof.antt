@@ -1,6 +1,5 @@
 -- `without` meets its contract: its bits are within a word. Assumes nothing.
 use mathlib.Core.Path.{refl}
-use borrow.Author.Needs.{needs}
 use native.Mathlib.Omega.{arith}
 use lib.Bits.{xor-lt, and-le-l}
 use Rattle.sets.proofs.without.Statement.{statement}

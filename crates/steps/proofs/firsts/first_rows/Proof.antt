@@ -1,7 +1,7 @@
 -- `first_rows` meets its contract: the loop has come to a thread with the sum of the lengths before it. Assumes nothing.
 use mathlib.Core.Path.{_≡_}
 use Prim.Native.Nat.{_-_}
-use lib.ListN.{length, length-replicate}
+use lib.ListN.{length}
 use borrow.Author.Needs.{needs}
 use native.Mathlib.Omega.{arith}
 use Rattle.tables.specs.Limits.{mostThreads}

@@ -1,7 +1,6 @@
 -- `go_on` meets its contract, by whether the replay has ended. Assumes nothing.
-use mathlib.Core.Path.{sym, ap, _∙_}
+use mathlib.Core.Path.{_∙_}
 use borrow.Author.Needs.{needs}
-use Rattle.verdicts.specs.declared.Told.{Told}
 use Rattle.steps.proofs.Entries.{goes-ended, goes-open}
 use Rattle.steps.proofs.going.go_on.Statement.{statement}
 use Rattle.steps.proofs.going.go_on.Tie as tie

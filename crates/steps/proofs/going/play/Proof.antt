@@ -1,5 +1,5 @@
 -- `play` meets its contract: what is left to go on with, from the point that the loop has come to, is what all entries come to. Assumes nothing.
-use mathlib.Core.Path.{_≡_, refl, sym, ap, _∙_}
+use mathlib.Core.Path.{_≡_, sym, _∙_}
 use Prim.Native.Nat.{_-_, _≤_}
 use native.Mathlib.Omega.{arith}
 use lib.ListN.{length, getD}
@@ -7,7 +7,6 @@ use borrow.Author.Needs.{needs}
 use Rattle.tables.specs.Limits.{mostThreads, mostRows, barriers}
 use Rattle.verdicts.specs.declared.Verdict.the-variants as verdict
 use Rattle.steps.specs.Going.{ends}
-use Rattle.steps.specs.Change.{FirstRows}
 use Rattle.steps.proofs.Stepping.{found, found-thread, found-next, stored}
 use Rattle.steps.proofs.Entries.{At, at-start, at-end, at-refused, at-mismatch, at-more, ran-goes}
 use Rattle.steps.proofs.going.play.Statement.{statement}

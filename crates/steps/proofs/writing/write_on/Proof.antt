@@ -1,14 +1,14 @@
 -- `write_on` meets its contract: after some steps the room has what they are, and the sets say who may step next. Assumes nothing.
-use mathlib.Core.Path.{_≡_, refl, sym, ap, _∙_}
-use Prim.Native.Nat.{_-_, min}
+use mathlib.Core.Path.{_≡_, refl, sym, _∙_}
+use Prim.Native.Nat.{_-_}
 use native.Mathlib.Omega.{arith}
-use lib.ListN.{length, getD, length-set}
+use lib.ListN.{length, length-set}
 use borrow.Author.Needs.{needs}
 use borrow.Author.Tests.{not-true, not-false}
 use Rattle.tables.specs.Limits.{mostThreads, barriers}
 use Rattle.turns.proofs.Kept.{kept-start}
 use Rattle.steps.proofs.Stepping.{found, found-next, found-command}
-use Rattle.steps.proofs.Written.{Writing, writing-start, writing-long, writing-none, writing-last, writing-more, writing-end}
+use Rattle.steps.proofs.Written.{Writing, writing-start, writing-none, writing-last, writing-more, writing-end}
 use Rattle.steps.proofs.writing.write_on.Statement.{statement}
 use Rattle.steps.proofs.writing.write_on.Tie as tie
 

@@ -1,6 +1,6 @@
 -- `Replay::step` meets its contract: the row and its change are found, and stored where the step ran. Assumes nothing.
-use mathlib.Core.Path.{refl, sym, ap, _∙_}
-use Prim.Native.Nat.{ℕ, _+_, min}
+use mathlib.Core.Path.{sym, _∙_}
+use Prim.Native.Nat.{min}
 use native.Mathlib.Omega.{arith}
 use borrow.Author.Needs.{needs}
 use borrow.Author.Tests.{not-true, not-false}
