@@ -22,6 +22,22 @@ install_packages() {
   apt-get install -q -y --no-install-recommends "${missing[@]}"
 }
 
+# temporary_in_memory: for each crate and each edit the prover copies what that stands on, up to 230 MB, into a temporary folder; in memory that takes an eighth of the time. So TMPDIR becomes a new
+# folder there, which the caller removes (in_memory), where memory is to spare and programs can be run from it, as nobody too. Who has set TMPDIR has chosen.
+in_memory=
+temporary_in_memory() {
+  local memory=/dev/shm needed=4194304 free spare folder
+  [ -z "${TMPDIR:-}" ] && [ "$(stat -f -c %T "$memory" 2> /dev/null)" = tmpfs ] || return 0
+  free=$(df -k --output=avail "$memory" | tail -n 1)
+  spare=$(sed -n 's/^MemAvailable: *\([0-9]*\) kB$/\1/p' /proc/meminfo)
+  [ "$free" -ge "$needed" ] && [ "${spare:-0}" -ge $((2 * needed)) ] || return 0
+  folder=$(mktemp -d "$memory/cuckoomoss.XXXXXX") || return 0
+  chmod 711 "$folder"
+  printf '#!/bin/sh\n' > "$folder/runs"
+  chmod 755 "$folder/runs"
+  if "$folder/runs" 2> /dev/null; then in_memory=$folder; export TMPDIR=$folder; else rm -rf "$folder"; fi
+}
+
 # is_made CRATE: its archive is there and newer than all that it is made of.
 is_made() {
   local archive=target/staticlib/lib$1.a
