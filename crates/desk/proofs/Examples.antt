@@ -17,8 +17,8 @@ use Rattle.grammar.specs.Tokens.{wordOf, markOf, pieceOf}
 use Rattle.grammar.specs.Automaton.{tokenMoves}
 use Rattle.notation.specs.Reading.{mostBytes, judgedOf, tooMany, reading}
 use Rattle.turns.specs.Turns.{held, hasLeft, mayStep}
-use Rattle.turns.specs.Counting.{counted}
-use Rattle.steps.specs.Barrier.{registration}
+use Rattle.barriers.specs.Counting.{counted}
+use Rattle.barriers.specs.Barrier.{registration}
 use Rattle.steps.specs.State.{start}
 use Rattle.steps.specs.Step.{allowed, registering, running, stepped}
 use Rattle.steps.specs.Going.{oneOn, goOn, begun, played}

@@ -21,15 +21,15 @@ use Rattle.schedules.proofs.Table.{decides}
 use Rattle.schedules.proofs.Theorems.{sound}
 use Rattle.steps.specs.Ending.{judged}
 use Rattle.steps.specs.Going.{played, generation}
-use Rattle.replay.specs.Program.{program}
+use Rattle.programs.specs.Program.{program}
 use Rattle.replay.specs.Writer.{apartFrom, apartSchedule}
 use Rattle.replay.specs.Schedules.{Complete, stopped, mismatched, Clean, Precedes}
-use Rattle.replay.proofs.Programs as programs
+use Rattle.programs.proofs.Programs as programs
 use Rattle.replay.proofs.Plays.{clean-through, legal-through}
 use Rattle.replay.proofs.Places.{dirty-told}
 use Rattle.replay.proofs.Schedules.{unlike, complete-to, clean-to, clean-from, clean-long, generation-is}
 use Rattle.replay.proofs.Precede.{precedes-from}
-use Rattle.replay.proofs.Agreements.{reuse-same, reaches-same}
+use Rattle.programs.proofs.Reaching.{reuse-same, reaches-same}
 use Rattle.replay.proofs.Writing.{first-complete}
 use Rattle.schedules.specs.Shows.{Avoids}
 use Rattle.evidence.specs.Evidence.{Disputes, HasBefore}

@@ -30,10 +30,10 @@ use Rattle.faults.proofs.Pairs.{in-order, reuse-is, race-is}
 use Rattle.verdicts.specs.InOrder.{orElse}
 use Rattle.steps.specs.Ending.{judged}
 use Rattle.steps.specs.Going.{played}
-use Rattle.replay.specs.Program.{program}
+use Rattle.programs.specs.Program.{program}
 use Rattle.replay.specs.Schedules.{Clean}
 use Rattle.replay.proofs.Judged.{judged-ending, clean-told}
-use Rattle.replay.proofs.Programs as programs
+use Rattle.programs.proofs.Programs as programs
 use Rattle.verdicts.proofs.InOrder.{or-first, or-second}
 use Rattle.review.specs.Judge.{generations, reaches}
 use Rattle.review.specs.Agreement.{number}

@@ -8,16 +8,15 @@ use native.Mathlib.Omega.{arith}
 use native.Mathlib.Decide.{decLt, ℕ-discrete}
 use lib.Dec.{eqb, ltb}
 use borrow.Author.Tests.{eq-eqb, lt-leb, ltb-true, eqb-true}
-use Rattle.tables.specs.Rows.{rows, kind, name, write, arrive, threadOf}
+use Rattle.tables.specs.Rows.{rows, kind, name, write, arrive, threadOf, registers}
 use Rattle.rules.specs.Rules.{Keeps}
 use Rattle.relation.proofs.Truth.{split, clashing, both, pair, either, left, right}
 use Rattle.schedules.specs.Order.{Reaches, reach}
 use Rattle.schedules.proofs.Theorems.{decides}
 use Rattle.faults.specs.declared.faults.Fault.the-variants as fault
-use Rattle.steps.specs.Step.{registers}
-use Rattle.replay.specs.Program.{program}
+use Rattle.programs.specs.Program.{program}
 use Rattle.faults.specs.Faults.{conflict, faults}
-use Rattle.replay.proofs.Agreements.{reaches-on}
+use Rattle.programs.proofs.Reaching.{reaches-on}
 use Rattle.faults.proofs.Pairs.{race-is, no-faults}
 
 -- four tests that all pass

@@ -18,7 +18,7 @@ use Rattle.schedules.proofs.Table.{decides}
 use Rattle.sheet.specs.declared.Pair.{Pair}
 use Rattle.faults.specs.declared.faults.Fault.{Fault}
 use Rattle.faults.specs.declared.faults.Fault.the-variants as fault
-use Rattle.replay.specs.Program.{program}
+use Rattle.programs.specs.Program.{program}
 use Rattle.sheet.specs.Sheet as sheet
 use Rattle.faults.specs.Faults.{succeeds, reuse, conflict, race, alongRow, allRows, pairOf, faulty, faults}
 

@@ -3,11 +3,10 @@ use mathlib.Core.Bool.{Bool, cond, not, _&&_, _||_}
 use mathlib.Core.List.{List, [], _∷_, _++_}
 use Prim.Native.Nat.{ℕ, zero, suc, _+_, _-_}
 use lib.Dec.{eqb, ltb}
-use Rattle.tables.specs.Rows.{rows, kind, name, write, arrive, threadOf, isFirst}
+use Rattle.tables.specs.Rows.{rows, kind, name, write, arrive, threadOf, isFirst, registers}
 use Rattle.sheet.specs.declared.Pair.{Pair}
 use Rattle.faults.specs.declared.faults.Fault.{Fault}
 use Rattle.faults.specs.declared.faults.Fault.the-variants.{Reuse, Race}
-use Rattle.steps.specs.Step.{registers}
 use Rattle.sheet.specs.Sheet.{pair}
 
 -- Same barrier, c₂ one generation after c₁. Reads and writes belong to no barrier.

@@ -7,8 +7,7 @@ use Prim.Native.Nat.{ℕ, _+_, _-_, _*_, _/_, _%_, _≤_, _<_}
 use lib.Dec.{ltb}
 use lib.ListN.{length, getD}
 use Rattle.tables.specs.Limits.{mostRows, barriers}
-use Rattle.tables.specs.Rows.{rows, kind, name, arrive}
-use Rattle.steps.specs.Step.{registers}
+use Rattle.tables.specs.Rows.{rows, kind, name, arrive, registers}
 use Rattle.rooms.specs.Rooms.{numberAt}
 use Rattle.faults.specs.declared.faults.Fault.{Fault}
 use Rattle.faults.specs.declared.faults.Fault.the-variants.{Reuse, Race}

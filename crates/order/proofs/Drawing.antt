@@ -21,7 +21,7 @@ use Rattle.relation.proofs.Chains.{reach-join, reach-map, reach-flat}
 use Rattle.relation.proofs.Rooms.{wrote, holds-map}
 use Rattle.schedules.specs.Order.{Edge, along, meets}
 use Rattle.schedules.proofs.Table.{edge-low}
-use Rattle.replay.specs.Program.{program}
+use Rattle.programs.specs.Program.{program}
 use Rattle.rooms.specs.Rooms.{numberAt}
 use Rattle.sweeps.specs.Pairs.{pairCount, PairBetween, PairIn}
 use Rattle.order.specs.Order.{Reached}

@@ -9,9 +9,8 @@ use native.Mathlib.Omega.{arith}
 use lib.ListN.{length, getD, set}
 use lib.Seq.{getD-set-same, getD-set-other}
 use borrow.Author.Tests.{eqb-true, eq-eqb, lt-ltb, le-ltb, ltb-true, le-leb}
-use Rattle.tables.specs.Rows.{rows, kind, name, arrive, sync}
+use Rattle.tables.specs.Rows.{rows, kind, name, arrive, sync, registers, syncs}
 use Rattle.relation.proofs.Truth.{split, clashing, same-test, both, pair}
-use Rattle.steps.specs.Step.{registers, syncs}
 use Rattle.rooms.specs.Rooms.{numberAt}
 use Rattle.order.specs.Order.{meets}
 use Rattle.order.specs.Leaders.{meetsRow, lastBelow, orLast, seat, sits, Seated, leader}

@@ -11,7 +11,7 @@ use Rattle.relation.proofs.Chains.{reach-map}
 use Rattle.relation.proofs.Rooms.{holds-related, holds-map}
 use Rattle.schedules.specs.Order.{Reaches, reach}
 use Rattle.schedules.proofs.Table.{decides, edge-alike}
-use Rattle.replay.specs.Program.{program}
+use Rattle.programs.specs.Program.{program}
 use Rattle.order.specs.Order.{Reached}
 
 module _ (commands lengths : List ℕ) (g : ℕ → ℕ) where

@@ -6,8 +6,7 @@ use Prim.Native.Nat.{ℕ, zero, suc, _+_, _*_, _%_, _<_}
 use lib.Dec.{ltb}
 use lib.ListN.{getD}
 use Rattle.tables.specs.Limits.{mostRows, barriers}
-use Rattle.tables.specs.Rows.{rows, name}
-use Rattle.steps.specs.Step.{syncs}
+use Rattle.tables.specs.Rows.{rows, name, syncs}
 use Rattle.rooms.specs.Rooms.{numberAt}
 use Rattle.order.specs.Order.{meets}
 

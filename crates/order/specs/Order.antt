@@ -3,11 +3,10 @@ use mathlib.Core.Bool.{Bool, _&&_}
 use mathlib.Core.List.{List}
 use Prim.Native.Nat.{ℕ}
 use lib.Dec.{eqb}
-use Rattle.tables.specs.Rows.{rows, name}
+use Rattle.tables.specs.Rows.{rows, name, registers, syncs}
 use Rattle.relation.specs.Table.{Holds}
 use Rattle.schedules.specs.Order.{Reaches}
-use Rattle.replay.specs.Program.{program}
-use Rattle.steps.specs.Step.{registers, syncs}
+use Rattle.programs.specs.Program.{program}
 
 -- each arrive, and each sync, reaches every sync of the same barrier and generation
 abbrev pub meets : List ℕ → (ℕ → ℕ) → ℕ → ℕ → Bool

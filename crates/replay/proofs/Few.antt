@@ -16,8 +16,8 @@ use Rattle.schedules.specs.Threads.{Threads, at, after, gens, Steps, Legal}
 use Rattle.schedules.proofs.Tally.{tally-one, tally-none, tally-all, tally-most}
 use Rattle.schedules.proofs.Step.{ran-same, ran-other, gen-same, gen-idle, gen-other, done-top}
 use Rattle.schedules.proofs.Threads.{stand, may}
-use Rattle.replay.specs.Program.{program}
-use Rattle.replay.proofs.Programs.{threads}
+use Rattle.programs.specs.Program.{program}
+use Rattle.programs.proofs.Programs.{threads}
 
 module _ {commands lengths : List ℕ} (K : Keeps commands lengths) where
   abbrev P : Program

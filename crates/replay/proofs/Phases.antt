@@ -13,10 +13,10 @@ use Rattle.schedules.proofs.Tally.{tally-pos, tally-none, find}
 use Rattle.schedules.proofs.Logs.{Allowed}
 use Rattle.schedules.proofs.Step.{member-in, member-out, member?, done-more, done-kept}
 use Rattle.schedules.proofs.Good.{Good, lacking, member-old, joins, joined, registered-same, registered-more, like, absent}
-use Rattle.steps.specs.declared.barrier.Phase.{Phase}
-use Rattle.steps.specs.declared.barrier.Phase.the-variants.{Unset, Expecting}
-use Rattle.steps.specs.declared.barrier.Barrier.{Barrier}
-use Rattle.steps.specs.Barrier.{soFar, isSet, refuses, unset, expecting}
+use Rattle.barriers.specs.declared.barrier.Phase.{Phase}
+use Rattle.barriers.specs.declared.barrier.Phase.the-variants.{Unset, Expecting}
+use Rattle.barriers.specs.declared.barrier.Barrier.{Barrier}
+use Rattle.barriers.specs.Barrier.{soFar, isSet, refuses, unset, expecting}
 
 module _ (P : Program) where
   open Program P using (size, count)

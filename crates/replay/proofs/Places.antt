@@ -29,7 +29,7 @@ use Rattle.replay.specs.Writer.{scheduleBy, schedule}
 use Rattle.steps.specs.Ending.{isBlocked, barrierSet, lowestAllowed, lowestBlocked, lowestSet, lastRun, ended, judged}
 use Rattle.steps.specs.Going.{played, generation}
 use Rattle.replay.specs.Schedules.{stateAfter, Complete, stopped, mismatched, Clean}
-use Rattle.replay.proofs.Programs.{threads}
+use Rattle.programs.proofs.Programs.{threads}
 use Rattle.replay.proofs.Few.{legal-few, gens-few}
 use Rattle.replay.proofs.Ties.{Stands, command-is, command-row}
 use Rattle.replay.proofs.Judged.{clean-told}

@@ -27,12 +27,12 @@ use Rattle.steps.specs.declared.step.Stepped.{Stepped}
 use Rattle.steps.specs.declared.going.Replayed.{Replayed}
 use Rattle.steps.specs.State.{start}
 use Rattle.steps.specs.Step.{allowed, stepped}
-use Rattle.turns.specs.Counting.{counted}
+use Rattle.barriers.specs.Counting.{counted}
 use Rattle.steps.specs.Going.{ends, wentOn, goOn, begun, played}
-use Rattle.turns.proofs.Turns.{counted-more}
+use Rattle.barriers.proofs.Registering.{counted-more}
 use Rattle.steps.proofs.Entries.{one-on, stays-ended}
-use Rattle.replay.specs.Program.{program}
-use Rattle.replay.proofs.Programs.{threads}
+use Rattle.programs.specs.Program.{program}
+use Rattle.programs.proofs.Programs.{threads}
 use Rattle.replay.proofs.Few.{legal-few}
 use Rattle.replay.proofs.Ties.{Stands, stands-start, allowed-steps, steps-allowed, command-row}
 use Rattle.replay.proofs.Tied.{Outcome, ran, mismatched, outcome, not-allowed}

@@ -13,9 +13,9 @@ use Rattle.schedules.specs.Threads.{Threads, commands, Legal}
 use Rattle.schedules.specs.Order.{Goes, stays, more, Before}
 use Rattle.schedules.proofs.Along.{first-more}
 use Rattle.schedules.proofs.Threads.{goes-commands}
-use Rattle.replay.specs.Program.{program}
+use Rattle.programs.specs.Program.{program}
 use Rattle.replay.specs.Schedules.{Precedes}
-use Rattle.replay.proofs.Programs.{threads}
+use Rattle.programs.proofs.Programs.{threads}
 use Rattle.replay.proofs.Ties.{has-run}
 use Rattle.replay.proofs.Plays.{Through, legal-part, legal-through}
 

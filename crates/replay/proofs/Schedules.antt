@@ -22,9 +22,9 @@ use Rattle.steps.specs.declared.going.Replayed.{Replayed}
 use Rattle.steps.specs.Step.{stepped}
 use Rattle.steps.specs.Going.{wentOn, goOn, begun, played, generation}
 use Rattle.steps.proofs.Entries.{go-on-joined, one-on}
-use Rattle.replay.specs.Program.{program}
+use Rattle.programs.specs.Program.{program}
 use Rattle.replay.specs.Schedules.{Stops, Complete, stopped, mismatched, Clean}
-use Rattle.replay.proofs.Programs as programs
+use Rattle.programs.proofs.Programs as programs
 use Rattle.replay.proofs.Tied as tied
 use Rattle.replay.proofs.Ties.{allowed-steps, steps-allowed, blocked-is, unset-is, no-barrier}
 use Rattle.replay.proofs.Few.{legal-all}

@@ -20,10 +20,10 @@ use Rattle.schedules.proofs.Tests.{not-matching}
 use Rattle.steps.specs.declared.state.Replay.{Replay}
 use Rattle.steps.specs.State.{start}
 use Rattle.steps.specs.Step.{allowed, command, stepped}
-use Rattle.replay.specs.Program.{program}
+use Rattle.programs.specs.Program.{program}
 use Rattle.steps.specs.Writing.{goesOn, stepping, picked, lowestPicked, pickedFirst}
 use Rattle.replay.specs.Writer.{scheduleBy}
-use Rattle.replay.proofs.Programs as programs
+use Rattle.programs.proofs.Programs as programs
 use Rattle.replay.proofs.Few.{steps-few}
 use Rattle.replay.proofs.Ties.{Stands, stands-start, allowed-steps, steps-allowed, command-is}
 use Rattle.replay.proofs.Tied.{Outcome, ran, mismatched, outcome}

@@ -11,7 +11,7 @@ use lib.ListN.{length, getD, set, length-set, length-map, List·getD-map}
 use lib.Seq.{getD-set-same, getD-set-other}
 use borrow.Author.Tests.{eq-eqb, ne-eqb, lt-ltb}
 use Rattle.tables.specs.Limits.{mostThreads, barriers}
-use Rattle.tables.specs.Rows.{name, count, firstRow}
+use Rattle.tables.specs.Rows.{name, count, firstRow, registers, syncs}
 use Rattle.rules.specs.Rules.{Keeps}
 use Rattle.relation.proofs.Truth.{clashing, split}
 use Rattle.schedules.specs.Machine.{Program, State, Mismatch, Matches, completes, next, state}
@@ -21,19 +21,19 @@ use Rattle.schedules.proofs.Step.{gen-same, gen-idle, done-kept}
 use Rattle.schedules.proofs.Good.{Good}
 use Rattle.schedules.proofs.Threads.{stand, may, good-after, at-same, at-other}
 use Rattle.turns.specs.Turns.{letGo, released}
-use Rattle.steps.specs.declared.barrier.Barrier.{Barrier}
+use Rattle.barriers.specs.declared.barrier.Barrier.{Barrier}
 use Rattle.steps.specs.declared.state.Replay.{Replay}
 use Rattle.steps.specs.declared.step.How.the-variants as how
 use Rattle.steps.specs.declared.step.Did.the-variants.{NotAllowed, Took}
 use Rattle.steps.specs.declared.step.Stepped.{Stepped}
-use Rattle.turns.specs.Counting.{top}
-use Rattle.steps.specs.Barrier.{soFar, refuses, registration, unset, expecting}
+use Rattle.barriers.specs.Counting.{top}
+use Rattle.barriers.specs.Barrier.{soFar, refuses, registration, unset, expecting}
 use Rattle.steps.specs.State.{ranSoFar, waiting, barrierAt, freed}
-use Rattle.steps.specs.Step.{registers, syncs, allowed, command, registering, running, stepped}
+use Rattle.steps.specs.Step.{allowed, command, registering, running, stepped}
 use Rattle.steps.specs.Step as step
-use Rattle.turns.proofs.Turns.{counted-more}
-use Rattle.replay.specs.Program.{program}
-use Rattle.replay.proofs.Programs.{lawful, named, threads}
+use Rattle.barriers.proofs.Registering.{counted-more}
+use Rattle.programs.specs.Program.{program}
+use Rattle.programs.proofs.Programs.{lawful, named, threads}
 use Rattle.replay.proofs.Phases.{BarrierIs, matching, mismatching, barrier-other, completes-is, barrier-full, barrier-more}
 use Rattle.replay.proofs.Waits.{WaitIs, wait-other, wait-freed, wait-gone, wait-on}
 use Rattle.replay.proofs.Ties.{Stands, command-is, steps-allowed, waits-not, few-got, few-done}

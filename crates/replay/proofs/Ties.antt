@@ -20,14 +20,14 @@ use Rattle.schedules.proofs.Threads.{stand, may, good-after}
 use Rattle.turns.specs.Turns.{held, mayStep}
 use Rattle.turns.proofs.Turns.{left-is}
 use Rattle.steps.specs.declared.state.Replay.{Replay}
-use Rattle.turns.specs.Counting.{top}
-use Rattle.steps.specs.Barrier.{soFar}
+use Rattle.barriers.specs.Counting.{top}
+use Rattle.barriers.specs.Barrier.{soFar}
 use Rattle.steps.specs.State.{start, ranSoFar, waiting, barrierAt}
 use Rattle.steps.specs.Step.{allowed, command}
 use Rattle.steps.specs.Ending.{isBlocked, barrierSet}
 use Rattle.steps.proofs.Changing as changing
-use Rattle.replay.specs.Program.{program}
-use Rattle.replay.proofs.Programs.{lawful, named, threads}
+use Rattle.programs.specs.Program.{program}
+use Rattle.programs.proofs.Programs.{lawful, named, threads}
 use Rattle.replay.proofs.Phases.{BarrierIs, barrier-start, so-far, unset-none, none-unset, none-registered}
 use Rattle.replay.proofs.Waits.{WaitIs, held-blocked, wait-start}
 use Rattle.replay.proofs.Few.{legal-few, done-few}

@@ -17,11 +17,11 @@ use Rattle.steps.specs.declared.state.Replay.{Replay}
 use Rattle.steps.specs.State.{start}
 use Rattle.steps.specs.Step.{allowed, stepped}
 use Rattle.steps.specs.Ending.{lowestAllowed}
-use Rattle.replay.specs.Program.{program}
+use Rattle.programs.specs.Program.{program}
 use Rattle.steps.specs.Writing.{goesOn, stepping, picked, lowestPicked, pickedFirst}
 use Rattle.replay.specs.Writer.{scheduleBy, schedule}
 use Rattle.replay.specs.Schedules.{Complete}
-use Rattle.replay.proofs.Programs as programs
+use Rattle.programs.proofs.Programs as programs
 use Rattle.replay.proofs.Few.{steps-few}
 use Rattle.replay.proofs.Ties.{Stands, stands-start, allowed-steps, steps-allowed}
 use Rattle.replay.proofs.Tied.{Outcome, ran, mismatched, outcome}

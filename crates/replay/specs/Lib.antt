@@ -1,6 +1,5 @@
 -- A step, a whole schedule and how it ends stand in the crate `steps`. Read here, in this order: Writer (the schedules that are written); Schedules (which are legal and complete, which
--- end clean, whether all agree); Doors (what the judge and the writers promise). By itself: Program (the tables as a program of `schedules`).
+-- end clean, whether all agree); Doors (what the judge and the writers promise).
 pub mod Writer
 pub mod Schedules
 pub mod Doors
-pub mod Program

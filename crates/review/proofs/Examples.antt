@@ -12,8 +12,8 @@ use Rattle.turns.specs.Turns.{held, hasLeft, mayStep}
 use Rattle.relation.specs.Chains.{rounds}
 use Rattle.relation.specs.Table.{width}
 use Rattle.schedules.specs.Order.{edge, reach}
-use Rattle.turns.specs.Counting.{counted}
-use Rattle.steps.specs.Barrier.{registration}
+use Rattle.barriers.specs.Counting.{counted}
+use Rattle.barriers.specs.Barrier.{registration}
 use Rattle.steps.specs.State.{start}
 use Rattle.steps.specs.Step.{allowed, registering, running, stepped}
 use Rattle.steps.specs.Going.{oneOn, goOn, begun, played}

@@ -31,7 +31,7 @@ use Rattle.steps.specs.Step.{allowed}
 use Rattle.steps.specs.Ending.{isBlocked, barrierSet, lowestAllowed, lowestBlocked, lowestSet, lastRun, ended, judged}
 use Rattle.verdicts.specs.InOrder.{orElse}
 use Rattle.steps.specs.Going.{played}
-use Rattle.replay.specs.Program.{program}
+use Rattle.programs.specs.Program.{program}
 use Rattle.faults.specs.Faults.{conflict, race, faults}
 use Rattle.findings.specs.Findings.{firstPair, faultTold}
 use Rattle.review.specs.Judge.{generations, reaches}
@@ -39,10 +39,11 @@ use Rattle.replay.specs.Schedules.{stateAfter, Complete, stopped, mismatched, C
 use Rattle.replay.specs.Schedules as schedules
 use Rattle.review.specs.Agreement.{Judges}
 use Rattle.replay.proofs.Judged.{stops-by, clean-by}
-use Rattle.replay.proofs.Programs as programs
+use Rattle.programs.proofs.Programs as programs
 use Rattle.replay.proofs.Plays.{Ends, through, refused-at, mismatched-at, Through, plays-all, clean-through, legal-through}
 use Rattle.replay.proofs.Schedules.{unlike, complete-from, clean-to, generation-is}
-use Rattle.replay.proofs.Agreements.{reuse-same, reaches-same, agree-from, disagreed, order-to, order-from}
+use Rattle.programs.proofs.Reaching.{reuse-same, reaches-same}
+use Rattle.replay.proofs.Agreements.{agree-from, disagreed, order-to, order-from}
 use Rattle.faults.proofs.Pairs.{reuse-is, race-is, no-faults, some-fault}
 use Rattle.faults.proofs.Conflicts.{accesses, reaches-either}
 

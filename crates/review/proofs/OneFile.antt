@@ -21,12 +21,12 @@ use Rattle.faults.specs.declared.faults.Fault.the-variants.{Reuse, Race}
 use Rattle.verdicts.specs.InOrder.{orElse}
 use Rattle.steps.specs.Going.{played}
 use Rattle.steps.specs.Ending.{judged}
-use Rattle.replay.specs.Program.{program}
+use Rattle.programs.specs.Program.{program}
 use Rattle.replay.specs.Schedules.{Complete, Agree, Alike}
 use Rattle.verdicts.proofs.InOrder.{or-first, or-second}
 use Rattle.replay.proofs.Plays.{clean-through}
 use Rattle.replay.proofs.Judged.{judged-ending}
-use Rattle.replay.proofs.Agreements.{reaches-same}
+use Rattle.programs.proofs.Reaching.{reaches-same}
 use Rattle.rooms.specs.Refusals.{refused}
 use Rattle.rooms.proofs.Refusals.{Admitted, admitted}
 use Rattle.order.specs.Order.{Reached}

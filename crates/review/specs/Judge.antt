@@ -8,7 +8,7 @@ use Rattle.schedules.specs.Order.{reach}
 use Rattle.verdicts.specs.InOrder.{orElse}
 use Rattle.steps.specs.Going.{played, generation}
 use Rattle.steps.specs.Ending.{judged}
-use Rattle.replay.specs.Program.{program}
+use Rattle.programs.specs.Program.{program}
 use Rattle.rooms.specs.Refusals.{refused}
 use Rattle.findings.specs.Findings.{faultTold}
 

@@ -12,20 +12,20 @@ use lib.Seq.{set-getD}
 use borrow.Author.Tests.{eqb-true}
 use Rattle.relation.proofs.Truth.{split, clashing, both}
 use Rattle.tables.specs.Limits.{mostThreads}
-use Rattle.tables.specs.Rows.{name, count, firstRow}
+use Rattle.tables.specs.Rows.{name, count, firstRow, syncs}
 use Rattle.turns.specs.Turns.{released, hasLeft, mayStep}
 use Rattle.turns.proofs.Turns.{Left, left-so, left-past, released-nobody}
-use Rattle.steps.specs.declared.barrier.Barrier.{Barrier}
-use Rattle.steps.specs.declared.barrier.Met.{Met}
-use Rattle.steps.specs.declared.barrier.Met.the-variants.{Clash, Stays, Completes}
-use Rattle.steps.specs.declared.barrier.Registration.{Registration}
+use Rattle.barriers.specs.declared.barrier.Barrier.{Barrier}
+use Rattle.barriers.specs.declared.barrier.Met.{Met}
+use Rattle.barriers.specs.declared.barrier.Met.the-variants.{Clash, Stays, Completes}
+use Rattle.barriers.specs.declared.barrier.Registration.{Registration}
 use Rattle.steps.specs.declared.change.Change.{Change}
 use Rattle.steps.specs.declared.row.Row.{Row}
 use Rattle.steps.specs.declared.state.Replay.{Replay}
-use Rattle.turns.specs.Counting.{counted}
-use Rattle.steps.specs.Barrier.{unset, registration}
+use Rattle.barriers.specs.Counting.{counted}
+use Rattle.barriers.specs.Barrier.{unset, registration}
 use Rattle.steps.specs.State.{ranSoFar, waiting, barrierAt}
-use Rattle.steps.specs.Step.{enters, syncs, allowed, command, meeting, registering, running, stepped}
+use Rattle.steps.specs.Step.{enters, allowed, command, meeting, registering, running, stepped}
 use Rattle.steps.specs.Writing.{goesOn}
 use Rattle.steps.specs.Change.{rowAt, threadRow, changing, changed, applied}
 

@@ -21,7 +21,7 @@ use Rattle.steps.specs.declared.step.How.the-variants.{Mismatch, Ran}
 use Rattle.steps.specs.declared.step.Did.{Did}
 use Rattle.steps.specs.declared.step.Did.the-variants.{NotAllowed, Took}
 use Rattle.steps.specs.declared.going.Replayed.{Replayed}
-use Rattle.turns.specs.Counting.{counted}
+use Rattle.barriers.specs.Counting.{counted}
 use Rattle.steps.specs.Step.{stepped}
 use Rattle.steps.specs.Going.{ends, wentOn, oneOn, goOn}
 use Rattle.steps.specs.Writing.{goesOn}

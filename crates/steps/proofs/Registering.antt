@@ -1,4 +1,4 @@
--- What a registration meets and what a row changes, from the tests. Assumes nothing.
+-- What a row is and what it changes, from the tests. Assumes nothing.
 use mathlib.Core.Path.{_≡_, sym, _∙_}
 use mathlib.Core.Bool.{Bool, true, false}
 use mathlib.Core.List.{List}
@@ -9,35 +9,19 @@ use lib.Dec.{eqb, ltb}
 use borrow.Author.Tests.{eq-eqb, ne-eqb, lt-ltb, le-ltb, le-leb, lt-leb, ltb-true}
 use Rattle.relation.proofs.Truth.{split, both}
 use Rattle.tables.specs.Limits.{barriers}
-use Rattle.tables.specs.Rows.{kind, name, count, arrive, sync}
-use Rattle.turns.specs.Counting.{counted}
+use Rattle.tables.specs.Rows.{kind, name, count, arrive, sync, registers, syncs}
+use Rattle.barriers.specs.Counting.{counted}
 use Rattle.turns.specs.Turns.{mayGo}
-use Rattle.steps.specs.declared.barrier.Phase.the-variants.{Unset, Expecting}
-use Rattle.steps.specs.declared.barrier.Barrier.{Barrier}
-use Rattle.steps.specs.declared.barrier.Met.the-variants.{Clash, Stays, Completes}
-use Rattle.steps.specs.declared.barrier.Registration.{Registration}
+use Rattle.barriers.specs.declared.barrier.Phase.the-variants.{Unset, Expecting}
+use Rattle.barriers.specs.declared.barrier.Barrier.{Barrier}
+use Rattle.barriers.specs.declared.barrier.Met.the-variants.{Clash, Stays, Completes}
+use Rattle.barriers.specs.declared.barrier.Registration.{Registration}
 use Rattle.steps.specs.declared.row.Row.{Row}
 use Rattle.steps.specs.declared.step.How.the-variants.{Mismatch, Ran}
 use Rattle.steps.specs.declared.step.Did.the-variants.{NotAllowed, Took}
-use Rattle.steps.specs.Barrier.{oneMore, registration}
-use Rattle.steps.specs.Step.{registers, enters, syncs}
+use Rattle.barriers.specs.Barrier.{oneMore, registration}
+use Rattle.steps.specs.Step.{enters}
 use Rattle.steps.specs.Change.{plainRow, rowAt, threadRow, waitIf, still, changed}
-
--- ---- a barrier
-
-module _ (b : Barrier) (count : ℕ) where
-  pub registers-unset : b .phase ≡ Unset → oneMore count 0 (b .done) ≡ registration b count
-  unfolding registration
-  registers-unset e = rw e
-
-  module _ {n got : ℕ} (e : b .phase ≡ Expecting n got) where
-    pub registers-other : n ≢ count → record { met = Clash; after = b } ≡ registration b count
-    unfolding registration
-    registers-other m = rw (e, ne-eqb n count m)
-
-    pub registers-same : n ≡ count → oneMore count got (b .done) ≡ registration b count
-    unfolding registration
-    registers-same m = rw (e, eq-eqb n count m)
 
 -- ---- a row
 

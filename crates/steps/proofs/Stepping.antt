@@ -16,13 +16,13 @@ use Rattle.tables.specs.Limits.{mostThreads}
 use Rattle.tables.specs.Rows.{firstRow}
 use Rattle.tables.proofs.Rows.{first-none, first-next}
 use Rattle.turns.specs.Turns.{letGo, released, settled}
-use Rattle.steps.specs.declared.barrier.Phase.the-variants.{Unset}
+use Rattle.barriers.specs.declared.barrier.Phase.the-variants.{Unset}
 use Rattle.steps.specs.declared.change.Change.{Change}
 use Rattle.steps.specs.declared.row.Row.{Row}
 use Rattle.steps.specs.declared.state.Replay.{Replay}
 use Rattle.steps.specs.declared.step.Did.{Did}
-use Rattle.turns.specs.Counting.{counted}
-use Rattle.steps.specs.Barrier.{registration}
+use Rattle.barriers.specs.Counting.{counted}
+use Rattle.barriers.specs.Barrier.{registration}
 use Rattle.steps.specs.State.{ranSoFar, waiting, barrierAt}
 use Rattle.steps.specs.Step.{registering, stepped}
 use Rattle.steps.specs.Writing.{goesOn}

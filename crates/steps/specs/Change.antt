@@ -4,21 +4,21 @@ use mathlib.Core.Bool.{Bool, true, false, cond}
 use mathlib.Core.List.{List}
 use Prim.Native.Nat.{ℕ, _+_, _<_}
 use lib.ListN.{getD, set}
-use Rattle.tables.specs.Rows.{name, count, firstRow}
+use Rattle.tables.specs.Rows.{name, count, firstRow, syncs}
 use Rattle.turns.specs.Turns.{settled, mayGo}
-use Rattle.steps.specs.declared.barrier.Barrier.{Barrier}
-use Rattle.steps.specs.declared.barrier.Met.{Met}
-use Rattle.steps.specs.declared.barrier.Met.the-variants.{Clash, Stays, Completes}
+use Rattle.barriers.specs.declared.barrier.Barrier.{Barrier}
+use Rattle.barriers.specs.declared.barrier.Met.{Met}
+use Rattle.barriers.specs.declared.barrier.Met.the-variants.{Clash, Stays, Completes}
 use Rattle.steps.specs.declared.change.Change.{Change}
 use Rattle.steps.specs.declared.row.Row.{Row}
 use Rattle.steps.specs.declared.state.Replay.{Replay}
 use Rattle.steps.specs.declared.step.How.the-variants.{Mismatch, Ran}
 use Rattle.steps.specs.declared.step.Did.{Did}
 use Rattle.steps.specs.declared.step.Did.the-variants.{NotAllowed, Took}
-use Rattle.turns.specs.Counting.{counted}
-use Rattle.steps.specs.Barrier.{registration}
+use Rattle.barriers.specs.Counting.{counted}
+use Rattle.barriers.specs.Barrier.{registration}
 use Rattle.steps.specs.State.{ranSoFar}
-use Rattle.steps.specs.Step.{enters, syncs}
+use Rattle.steps.specs.Step.{enters}
 
 -- a command that enters no barrier
 abbrev pub plainRow : Bool → ℕ → Row

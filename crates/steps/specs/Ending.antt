@@ -12,7 +12,7 @@ use Rattle.verdicts.specs.declared.Told.{Told}
 use Rattle.turns.specs.Turns.{held}
 use Rattle.steps.specs.declared.state.Replay.{Replay}
 use Rattle.steps.specs.declared.going.Replayed.{Replayed}
-use Rattle.steps.specs.Barrier.{isSet}
+use Rattle.barriers.specs.Barrier.{isSet}
 use Rattle.steps.specs.State.{barrierAt}
 use Rattle.steps.specs.Step.{allowed, command}
 

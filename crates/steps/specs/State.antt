@@ -3,9 +3,9 @@ use Prim.Native.Nat.{ℕ, _+_}
 use lib.ListN.{getD, set, replicate}
 use Rattle.tables.specs.Limits.{mostThreads, barriers}
 use Rattle.turns.specs.Turns.{released}
-use Rattle.steps.specs.declared.barrier.Barrier.{Barrier}
+use Rattle.barriers.specs.declared.barrier.Barrier.{Barrier}
 use Rattle.steps.specs.declared.state.Replay.{Replay}
-use Rattle.steps.specs.Barrier.{unset}
+use Rattle.barriers.specs.Barrier.{unset}
 
 -- All barriers start unset and all threads unblocked.
 unfoldable pub start : Replay

@@ -2,29 +2,22 @@
 use mathlib.Core.Bool.{Bool, true, false, cond, _&&_}
 use mathlib.Core.List.{List}
 use Prim.Native.Nat.{ℕ, _+_}
-use lib.Dec.{eqb, leb, ltb}
+use lib.Dec.{ltb}
 use Rattle.tables.specs.Limits.{barriers}
-use Rattle.tables.specs.Rows.{kind, name, count, arrive, sync, firstRow}
+use Rattle.tables.specs.Rows.{name, count, registers, syncs, firstRow}
 use Rattle.turns.specs.Turns.{mayStep}
-use Rattle.steps.specs.declared.barrier.Barrier.{Barrier}
-use Rattle.steps.specs.declared.barrier.Met.{Met}
-use Rattle.steps.specs.declared.barrier.Met.the-variants.{Clash, Stays, Completes}
+use Rattle.barriers.specs.declared.barrier.Barrier.{Barrier}
+use Rattle.barriers.specs.declared.barrier.Met.{Met}
+use Rattle.barriers.specs.declared.barrier.Met.the-variants.{Clash, Stays, Completes}
 use Rattle.steps.specs.declared.state.Replay.{Replay}
 use Rattle.steps.specs.declared.step.How.the-variants.{Mismatch, Ran}
 use Rattle.steps.specs.declared.step.Did.the-variants.{NotAllowed, Took}
 use Rattle.steps.specs.declared.step.Stepped.{Stepped}
-use Rattle.turns.specs.Counting.{counted}
-use Rattle.steps.specs.Barrier.{registration}
+use Rattle.barriers.specs.Counting.{counted}
+use Rattle.barriers.specs.Barrier.{registration}
 use Rattle.steps.specs.State.{ranSoFar, barrierAt, advanced, stored, blocked, freed}
 
--- Arrive registers and goes on. Sync registers and blocks its thread. Read and write change no barrier.
-abbrev pub registers : List ℕ → ℕ → Bool
-registers commands c = leb arrive (kind commands c)
-
-abbrev pub syncs : List ℕ → ℕ → Bool
-syncs commands c = eqb (kind commands c) sync
-
--- It registers at a barrier that is there. A command that names none, which no table that passes has, runs as a read does.
+-- Read and write change no barrier. An arrive or a sync registers, at a barrier that is there; one that names none, which no table that passes has, runs as a read does.
 abbrev pub enters : List ℕ → ℕ → Bool
 enters commands c = registers commands c && ltb (name commands c) barriers
 
@@ -40,7 +33,7 @@ command lengths s t = firstRow lengths t + ranSoFar s t
 abbrev pub ran : Replay → ℕ → ℕ → Stepped
 ran after c generation = record { after = after; did = Took (Ran c generation) }
 
--- A sync that has registered blocks its thread; an arrive goes on.
+-- Arrive registers and goes on. Sync registers and blocks its thread.
 abbrev pub blockedIf : Bool → Replay → ℕ → ℕ → Replay
 blockedIf true s t b = blocked s t b
 blockedIf false s t b = s

@@ -3,12 +3,12 @@ ghost use mathlib.Core.Path.{_≡_};
 ghost use Prim.Native.Nat.{_<_};
 ghost use Rattle.tables.specs.Limits.{barriers};
 ghost use Rattle.steps.specs.Change.{still, waitIf, changed};
-use crate::barrier::Barrier;
-use crate::barrier::Met;
 use crate::row::Row;
 use crate::step::Did;
 use crate::step::How;
-use turns::more;
+use barriers::Barrier;
+use barriers::Met;
+use barriers::more;
 
 // What the step did; what its thread waits for then; what those waited for who are released, or 0; and the barrier.
 pub(crate) struct Change {

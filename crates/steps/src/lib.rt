@@ -1,5 +1,4 @@
 // The steps of a replay, from any state, over any tables: one step, any entries of a schedule, how a replay ended, and the schedule that a choice writes.
-mod barrier; // a barrier and what registering does to it
 mod change; // what a step changes
 mod ending; // verdicts 6, 8 and 9: how a replay that went through ended
 mod firsts; // where each thread's rows begin
@@ -9,8 +8,6 @@ mod state; // the replay state
 mod step; // one step of it
 mod writing; // the schedule that a choice writes
 
-pub use barrier::Barrier;
-pub use barrier::Phase;
 pub use going::Replayed;
 pub use going::go_on;
 pub use state::Replay;

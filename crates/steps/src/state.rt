@@ -1,8 +1,8 @@
 // The replay state: one value, which each step takes and returns.
 ghost use mathlib.Core.Path.{_≡_};
 ghost use Rattle.steps.specs.State.{start};
-use crate::barrier::Barrier;
-use crate::barrier::Phase;
+use barriers::Barrier;
+use barriers::Phase;
 use tables::Table;
 
 // How many commands each thread has run; what it waits for, 0 or the barrier plus 1; the barriers.

@@ -13,19 +13,7 @@ use Rattle.relation.proofs.Truth.{both}
 use Rattle.tables.specs.Limits.{mostThreads}
 use Rattle.tables.specs.Lowest.{lowest}
 use Rattle.tables.proofs.Lowest.{lowest-is}
-use Rattle.turns.specs.Counting.{top, counted}
 use Rattle.turns.specs.Turns.{held, letGo, released, settled, hasLeft, mayGo, mayStep, lowestOr}
-
--- ---- counters
-
--- a counter that is not at its largest goes up
-pub counted-more : (n : ℕ) → n < top → counted n ≡ n + 1
-unfolding counted
-counted-more n l = rw (lt-ltb n top l)
-
-pub counted-top : (n : ℕ) → top ≤ n → n ≡ counted n
-unfolding counted
-counted-top n l = rw (le-ltb n top l)
 
 -- ---- the lowest that passes one test, or else another
 

@@ -8,7 +8,6 @@ use Rattle.tables.specs.Limits.{mostThreads}
 use Rattle.tables.specs.Lowest.{lowest}
 use Rattle.sets.specs.declared.Set.{Set}
 use Rattle.turns.specs.declared.ready.Ready.{Ready}
-use Rattle.turns.specs.Counting.{counted}
 use Rattle.turns.specs.Turns.{held, settled, mayGo, mayStep}
 use Rattle.turns.specs.Ready.{noneReady, looked, heldBelow, heldAfter, chosen}
 
@@ -45,6 +44,3 @@ look-one lengths early a t n x e f = e ∙ sym f
 
 pub choose-one : (a : Ready) (blocked : Set) {r s : ℕ} → r ≡ chosen a blocked → s ≡ chosen a blocked → r ≡ s
 choose-one a blocked e f = e ∙ sym f
-
-pub more-one : (n : ℕ) {r s : ℕ} → r ≡ counted n → s ≡ counted n → r ≡ s
-more-one n e f = e ∙ sym f

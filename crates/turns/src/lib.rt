@@ -1,12 +1,10 @@
 // Whose turn it is, of what each thread has run and waits for. Numbers that a list has no place for are 0, so that nothing is asked of a caller.
 mod choice; // which thread may step
-mod counting; // counters that stay at their largest
 mod ready; // which threads may step, as sets
 mod waiting; // what threads wait for
 
 pub use choice::allows;
 pub use choice::lowest_allowed;
-pub use counting::more;
 pub use ready::Ready;
 pub use waiting::at;
 pub use waiting::blocked_after;

@@ -1,9 +1,9 @@
 -- `Barrier::register` meets its contract, by the phase and the count. Assumes nothing.
 use mathlib.Core.Path.{_∙_}
 use borrow.Author.Needs.{needs}
-use Rattle.steps.proofs.Registering.{registers-unset, registers-other, registers-same}
-use Rattle.steps.proofs.barrier.Barrier.register.Statement.{statement}
-use Rattle.steps.proofs.barrier.Barrier.register.Tie as tie
+use Rattle.barriers.proofs.Registering.{registers-unset, registers-other, registers-same}
+use Rattle.barriers.proofs.barrier.Barrier.register.Statement.{statement}
+use Rattle.barriers.proofs.barrier.Barrier.register.Tie as tie
 
 returns : tie.Need-returns
 returns c = registers-other _ _ (c .before .before .phase .given .1) (c .if1 .taken)

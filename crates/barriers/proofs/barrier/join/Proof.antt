@@ -1,8 +1,8 @@
 -- `join` meets its contract, by its test. Assumes nothing.
 use borrow.Author.Needs.{needs}
 use borrow.Author.Tests.{eq-eqb, ne-eqb}
-use Rattle.steps.proofs.barrier.join.Statement.{statement}
-use Rattle.steps.proofs.barrier.join.Tie as tie
+use Rattle.barriers.proofs.barrier.join.Statement.{statement}
+use Rattle.barriers.proofs.barrier.join.Tie as tie
 
 returns : tie.Need-returns
 returns c = simp (← c .before .before .more .ensures, ← c .more2 .ensures, eq-eqb _ _ (c .before .if1 .taken))

@@ -2,11 +2,10 @@
 use mathlib.Core.Bool.{Bool}
 use mathlib.Core.List.{List}
 use Prim.Native.Nat.{ℕ}
-use Rattle.tables.specs.Rows.{rows, name, count, isFirst}
+use Rattle.tables.specs.Rows.{rows, name, count, registers, syncs, isFirst}
 use Rattle.schedules.specs.Machine.{Program}
-use Rattle.steps.specs.declared.barrier.Phase.the-variants.{Expecting}
-use Rattle.steps.specs.Barrier.{refuses}
-use Rattle.steps.specs.Step.{registers, syncs}
+use Rattle.barriers.specs.declared.barrier.Phase.the-variants.{Expecting}
+use Rattle.barriers.specs.Barrier.{refuses}
 
 -- d may not register where c alone has
 abbrev pub clash : List ℕ → ℕ → ℕ → Bool

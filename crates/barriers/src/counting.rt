@@ -1,6 +1,6 @@
 // Counters.
 ghost use mathlib.Core.Path.{_≡_};
-ghost use Rattle.turns.specs.Counting.{counted};
+ghost use Rattle.barriers.specs.Counting.{counted};
 
 // One more; a counter at the largest number stays there.
 pub fn more(n: u32) -> u32

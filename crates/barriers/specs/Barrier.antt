@@ -2,12 +2,12 @@
 use mathlib.Core.Bool.{Bool, true, false, cond, not}
 use Prim.Native.Nat.{ℕ}
 use lib.Dec.{eqb}
-use Rattle.turns.specs.Counting.{counted}
-use Rattle.steps.specs.declared.barrier.Phase.{Phase}
-use Rattle.steps.specs.declared.barrier.Phase.the-variants.{Unset, Expecting}
-use Rattle.steps.specs.declared.barrier.Barrier.{Barrier}
-use Rattle.steps.specs.declared.barrier.Met.the-variants.{Clash, Stays, Completes}
-use Rattle.steps.specs.declared.barrier.Registration.{Registration}
+use Rattle.barriers.specs.Counting.{counted}
+use Rattle.barriers.specs.declared.barrier.Phase.{Phase}
+use Rattle.barriers.specs.declared.barrier.Phase.the-variants.{Unset, Expecting}
+use Rattle.barriers.specs.declared.barrier.Barrier.{Barrier}
+use Rattle.barriers.specs.declared.barrier.Met.the-variants.{Clash, Stays, Completes}
+use Rattle.barriers.specs.declared.barrier.Registration.{Registration}
 
 -- what has registered so far
 abbrev pub soFar : Phase → ℕ

@@ -1,7 +1,7 @@
 // A barrier: either unset, or expecting a count with what has registered so far.
 ghost use mathlib.Core.Path.{_≡_};
-ghost use Rattle.steps.specs.Barrier.{isSet, oneMore, registration};
-use turns::more;
+ghost use Rattle.barriers.specs.Barrier.{isSet, oneMore, registration};
+use crate::counting::more;
 
 pub enum Phase {
     Unset,
@@ -10,21 +10,21 @@ pub enum Phase {
 
 // With it travels how many of its generations have completed.
 pub struct Barrier {
-    pub(crate) phase: Phase,
-    pub(crate) done: u32,
+    pub phase: Phase,
+    pub done: u32,
 }
 
 // What a registration meets.
-pub(crate) enum Met {
+pub enum Met {
     Clash,
     Stays,
     Completes,
 }
 
 // That, and the barrier after it: beside each other, since an enum cannot hold what a barrier may come to hold.
-pub(crate) struct Registration {
-    pub(crate) met: Met,
-    pub(crate) after: Barrier,
+pub struct Registration {
+    pub met: Met,
+    pub after: Barrier,
 }
 
 // One more registers where `got` have, and the barrier is unset again when they reach the count.
@@ -52,7 +52,7 @@ fn join(count: u32, got: u32, done: u32) -> Registration
 
 impl Barrier {
     // A command of this count registers.
-    pub(crate) fn register(self, count: u32) -> Registration
+    pub fn register(self, count: u32) -> Registration
         ensures { λ r. ⌜ r ≡ registration self count ⌝ }
     {
         let phase = self.phase;
@@ -71,7 +71,7 @@ impl Barrier {
         }
     }
 
-    pub(crate) fn is_set(self) -> bool
+    pub fn is_set(self) -> bool
         ensures { λ r. ⌜ r ≡ isSet (self .phase) ⌝ }
     {
         let phase = self.phase;

@@ -1,9 +1,9 @@
 -- `more` meets its contract, by its test. Assumes nothing.
 use mathlib.Core.Path.{sym}
 use borrow.Author.Needs.{needs}
-use Rattle.turns.proofs.Turns.{counted-more, counted-top}
-use Rattle.turns.proofs.counting.more.Statement.{statement}
-use Rattle.turns.proofs.counting.more.Tie as tie
+use Rattle.barriers.proofs.Registering.{counted-more, counted-top}
+use Rattle.barriers.proofs.counting.more.Statement.{statement}
+use Rattle.barriers.proofs.counting.more.Tie as tie
 
 returns : tie.Need-returns
 returns c = sym (counted-more _ (c .if1 .taken))

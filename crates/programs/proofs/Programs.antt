@@ -8,15 +8,14 @@ use lib.Dec.{eqb, leb}
 use lib.ListN.{length}
 use borrow.Author.Tests.{eqb-true, eqb-false, eq-eqb, leb-true, not-false}
 use Rattle.tables.specs.Limits.{barriers}
-use Rattle.tables.specs.Rows.{rows, kind, name, count, arrive, sync, firstRow, endRow, threadOf}
+use Rattle.tables.specs.Rows.{rows, kind, name, count, arrive, sync, registers, firstRow, endRow, threadOf}
 use Rattle.rules.specs.Rules.{Keeps}
 use Rattle.tables.proofs.Rows.{home, only}
 use Rattle.rules.proofs.Rules.{row-barrier}
 use Rattle.relation.proofs.Truth.{same-test}
 use Rattle.schedules.specs.Machine.{Lawful}
 use Rattle.schedules.specs.Threads.{Threads}
-use Rattle.steps.specs.Step.{registers}
-use Rattle.replay.specs.Program.{program}
+use Rattle.programs.specs.Program.{program}
 
 turned : (m n : ℕ) → eqb m n ≡ eqb n m
 turned m n = same-test _ _ (λ e. eq-eqb n m (sym (eqb-true m n e))) (λ e. eq-eqb m n (sym (eqb-true n m e)))

@@ -1,0 +1,2 @@
+-- The tables as a program of `schedules`.
+pub mod Program
