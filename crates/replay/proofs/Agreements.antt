@@ -1,20 +1,13 @@
 -- Agreement and order, between the schedules of the replay and those of `schedules`. Assumes nothing.
-use mathlib.Core.Path.{_≡_, sym, ap, _∙_, subst}
+use mathlib.Core.Path.{sym, _∙_, subst}
 use mathlib.Core.Logic.{_↔_}
-use mathlib.Core.Bool.{false}
 use mathlib.Core.List.{List, reverse, reverse-reverse}
-use Prim.Native.Nat.{ℕ, zero, suc, _+_, _<_}
-use native.Mathlib.Omega.{arith}
-use Rattle.tables.specs.Rows.{rows, threadOf}
+use Prim.Native.Nat.{ℕ, _<_}
+use Rattle.tables.specs.Rows.{rows}
 use Rattle.rules.specs.Rules.{Keeps}
-use Rattle.relation.specs.Chains.{here, goes}
-use Rattle.relation.proofs.Chains.{reach-map}
-use Rattle.relation.proofs.Truth.{isnt}
 use Rattle.schedules.specs.Machine.{Program}
 use Rattle.schedules.specs.Threads as threads
-use Rattle.schedules.specs.Order.{along, Reaches, Succeeds, Waits, Reuse}
 use Rattle.schedules.specs.Claims as claims
-use Rattle.schedules.proofs.Table.{edge-alike}
 use Rattle.programs.specs.Program.{program}
 use Rattle.replay.specs.Schedules.{Complete, Clean, Agree, Precedes, InOneOrder, Disagree, unclean, unlike}
 use Rattle.programs.proofs.Programs as programs

@@ -2,24 +2,23 @@
 use mathlib.Core.Path.{_≡_, sym, _∙_}
 use mathlib.Core.Bool.{Bool, true, false}
 use mathlib.Core.List.{List}
-use mathlib.Core.Logic.{⊎-elim, _≢_}
+use mathlib.Core.Logic.{⊎-elim}
 use Prim.Native.Nat.{ℕ, _+_, _≤_, _<_}
 use native.Mathlib.Omega.{arith}
 use lib.Dec.{eqb, ltb}
-use borrow.Author.Tests.{eq-eqb, ne-eqb, lt-ltb, le-ltb, le-leb, lt-leb, ltb-true}
+use borrow.Author.Tests.{lt-ltb, le-ltb, le-leb, lt-leb, ltb-true}
 use Rattle.relation.proofs.Truth.{split, both}
 use Rattle.tables.specs.Limits.{barriers}
 use Rattle.tables.specs.Rows.{kind, name, count, arrive, sync, registers, syncs}
 use Rattle.barriers.specs.Counting.{counted}
 use Rattle.turns.specs.Turns.{mayGo}
-use Rattle.barriers.specs.declared.barrier.Phase.the-variants.{Unset, Expecting}
 use Rattle.barriers.specs.declared.barrier.Barrier.{Barrier}
 use Rattle.barriers.specs.declared.barrier.Met.the-variants.{Clash, Stays, Completes}
 use Rattle.barriers.specs.declared.barrier.Registration.{Registration}
 use Rattle.steps.specs.declared.row.Row.{Row}
 use Rattle.steps.specs.declared.step.How.the-variants.{Mismatch, Ran}
 use Rattle.steps.specs.declared.step.Did.the-variants.{NotAllowed, Took}
-use Rattle.barriers.specs.Barrier.{oneMore, registration}
+use Rattle.barriers.specs.Barrier.{registration}
 use Rattle.steps.specs.Step.{enters}
 use Rattle.steps.specs.Change.{plainRow, rowAt, threadRow, waitIf, still, changed}
 
