@@ -51,6 +51,10 @@ has-put s z t u on h =
     (λ (l : u < mostThreads). rw (lt-ltb u mostThreads l) (member-put (s .words) t u on (omega arith)))
     (λ (l : ¬ (u < mostThreads)). rw (le-ltb u mostThreads (omega arith), ne-eqb u t (omega arith))))
 
+pub put-past : (s : Set) (t : ℕ) (on : Bool) → mostThreads ≤ t → put s t on ≡ s
+unfolding put
+put-past s t on l = rw (le-ltb t mostThreads l)
+
 -- ---- the lowest that is in one and not in another, word by word
 
 module _ (a b : Set) where

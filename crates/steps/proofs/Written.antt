@@ -111,7 +111,7 @@ module _ (early : List Bool) (commands lengths before : List ℕ) (from : Replay
         pub writing-more : goesOn (made .did) ≡ true → {n x : ℕ} {now : List ℕ} {s′ : Replay} {r′ : Ready} {b′ : Set}
             → n ≡ ranSoFar s t → x ≡ row .command + 1 → now ≡ settled t (made .wait) (made .frees) (s .waits)
             → s′ ≡ record { next = set (s .next) t (n + 1); waits = now; barriers = set (s .barriers) (row .barrier) (made .after) }
-            → r′ ≡ looked lengths early r t (n + 1) x → b′ ≡ heldAfter now t (made .wait) (made .frees) blocked
+            → r′ ≡ looked lengths early r t (n + 1) x → b′ ≡ heldAfter now (length lengths) t (made .wait) (made .frees) blocked
             → Writing (set room i t) s′ r′ b′ (i + 1)
         unfolding stepping
         writing-more e {n} {x} {now} en ex ew es er eb =

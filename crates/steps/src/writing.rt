@@ -51,7 +51,7 @@ pub fn write_on(
     let firsts = first_rows(lengths);
     let mut state = from;
     let mut ready = all_ready(lengths, &firsts, &state.next, early);
-    let mut blocked = blocked_set(&state.waits);
+    let mut blocked = blocked_set(lengths, &state.waits);
     let mut steps = 0;
     while steps < room.len() {
         let t = ready.choose(blocked);
@@ -75,7 +75,7 @@ pub fn write_on(
         state.next[t] = n + 1;
         settle(&mut state.waits, t, made.wait, made.frees);
         ready = ready.look(lengths, early, t, n + 1, row.command + 1);
-        blocked = blocked_after(blocked, &state.waits, t, made.wait, made.frees);
+        blocked = blocked_after(blocked, lengths, &state.waits, t, made.wait, made.frees);
     }
     steps
 }

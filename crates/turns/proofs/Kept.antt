@@ -18,7 +18,7 @@ use Rattle.tables.specs.Rows.{firstRow}
 use Rattle.tables.proofs.Lowest.{lowest-first, lowest-is}
 use Rattle.sets.specs.declared.Set.{Set}
 use Rattle.sets.specs.Set.{has, none, put, hasBut}
-use Rattle.sets.proofs.Sets.{Sized, has-none, has-put, sized-none, sized-put}
+use Rattle.sets.proofs.Sets.{Sized, has-none, has-put, put-past, sized-none, sized-put}
 use Rattle.turns.specs.declared.ready.Ready.{Ready}
 use Rattle.turns.specs.Turns.{held, released, settled, hasLeft, mayStep, goesFirst, lowestOr}
 use Rattle.turns.specs.Ready.{noneReady, looked, heldBelow, heldAfter}
@@ -40,31 +40,34 @@ module _ (waits : List ℕ) where
   unfolding heldBelow
   held-more t e f g = rw add-one (g ∙ ap₂ (λ (s : Set) (b : Bool). put s t b) e f)
 
-  pub held-all : {t : ℕ} {s : Set} → s ≡ heldBelow waits t → t ≤ mostThreads → mostThreads ≤ t → s ≡ heldBelow waits mostThreads
-  held-all {t} e l m = let q : t ≡ mostThreads = omega arith in e ∙ ap (heldBelow waits) q
+  pub held-all : {t n : ℕ} {s : Set} → s ≡ heldBelow waits t → t ≤ n → n ≤ t → s ≡ heldBelow waits n
+  held-all {t} {n} e l m = let q : t ≡ n = omega arith in e ∙ ap (heldBelow waits) q
 
   sized-held : (n : ℕ) → Sized (heldBelow waits n)
   unfolding heldBelow
   sized-held zero = sized-none
   sized-held (suc n) = sized-put (heldBelow waits n) (sized-held n) n (held waits n)
 
-  has-held : (n t : ℕ) → n ≤ mostThreads → has (heldBelow waits n) t ≡ ltb t n && held waits t
-  unfolding heldBelow
-  has-held zero t l = has-none t ∙ rw (le-ltb t 0 (omega arith))
-  has-held (suc n) t l =
-      has-put (heldBelow waits n) (sized-held n) n t (held waits n) (omega arith)
-      ∙ by-cases (ℕ-discrete t n) (λ (e : t ≡ n). rw (eq-eqb t n e, lt-ltb t (suc n) (omega arith)) (ap (held waits) (sym e)))
-      (λ (d : t ≢ n). rw (ne-eqb t n d, has-held n t (omega arith), below-other t n d))
-
   held-past : (t : ℕ) → mostThreads ≤ t → held waits t ≡ false
   unfolding held
   held-past t l = rw (le-ltb t mostThreads l)
 
-  pub has-held-all : (t : ℕ) → has (heldBelow waits mostThreads) t ≡ held waits t
-  has-held-all t =
-      has-held mostThreads t (omega arith)
-      ∙ by-cases (decLt t mostThreads) (λ (l : t < mostThreads). rw (lt-ltb t mostThreads l))
-      (λ (l : ¬ (t < mostThreads)). rw (le-ltb t mostThreads (omega arith), held-past t (omega arith)))
+  has-held : (n t : ℕ) → has (heldBelow waits n) t ≡ ltb t n && held waits t
+  unfolding heldBelow
+  has-held zero t = has-none t ∙ rw (le-ltb t 0 (omega arith))
+  has-held (suc n) t =
+      by-cases (decLt n mostThreads)
+      (λ (l : n < mostThreads).
+      has-put (heldBelow waits n) (sized-held n) n t (held waits n) l
+      ∙ by-cases (ℕ-discrete t n) (λ (e : t ≡ n). rw (eq-eqb t n e, lt-ltb t (suc n) (omega arith)) (ap (held waits) (sym e)))
+      (λ (d : t ≢ n). rw (ne-eqb t n d, has-held n t, below-other t n d)))
+      (λ (l : ¬ (n < mostThreads)).
+      ap (λ (s : Set). has s t) (put-past (heldBelow waits n) n (held waits n) (omega arith)) ∙ has-held n t
+      ∙ by-cases (ℕ-discrete t n) (λ (e : t ≡ n). rw (le-ltb t n (omega arith), lt-ltb t (suc n) (omega arith)) (sym (held-past t (omega arith))))
+      (λ (d : t ≢ n). rw (below-other t n d)))
+
+  has-held-so : (n t : ℕ) → t < n → has (heldBelow waits n) t ≡ held waits t
+  has-held-so n t l = has-held n t ∙ rw (lt-ltb t n l)
 
 -- ---- all three sets
 
@@ -75,7 +78,7 @@ pub record Kept (lengths : List ℕ) (early : List Bool) (next waits : List ℕ)
   pub sized-blocked : Sized blocked
   pub left : (t : ℕ) → has (r .left) t ≡ hasLeft lengths t (getD next t 0)
   pub first : (t : ℕ) → has (r .first) t ≡ hasLeft lengths t (getD next t 0) && goesFirst early (firstRow lengths t + getD next t 0)
-  pub blocked-so : (t : ℕ) → has blocked t ≡ held waits t
+  pub blocked-so : (t : ℕ) → t < length lengths → has blocked t ≡ held waits t
 
 module _ (lengths : List ℕ) (early : List Bool) where
   left-past′ : (t n : ℕ) → mostThreads ≤ t → hasLeft lengths t n ≡ false
@@ -129,50 +132,49 @@ module _ (lengths : List ℕ) (early : List Bool) where
       by-cases (decLt t mostThreads) (λ (l : t < mostThreads). rw (lt-ltb t mostThreads l))
       (λ (l : ¬ (t < mostThreads)). rw (le-ltb t mostThreads (omega arith), past (omega arith)))
 
-  pub kept-start : (next waits : List ℕ) (r : Ready) {blocked : Set} → LookedBelow next r mostThreads → blocked ≡ heldBelow waits mostThreads → Kept lengths early next waits r blocked
+  pub kept-start : (next waits : List ℕ) (r : Ready) {blocked : Set} → LookedBelow next r mostThreads → blocked ≡ heldBelow waits (length lengths) → Kept lengths early next waits r blocked
   kept-start next waits r L e =
       record {
         sized-left = L .sized-left;
         sized-first = L .sized-first;
-        sized-blocked = rw e (sized-held waits mostThreads);
+        sized-blocked = rw e (sized-held waits (length lengths));
         left = λ t. L .left t ∙ all-said (λ u. hasLeft lengths u (getD next u 0)) t (left-past′ t (getD next t 0));
         first =
             λ t. L .first t
             ∙ all-said (λ u. hasLeft lengths u (getD next u 0) && goesFirst early (firstRow lengths u + getD next u 0)) t (λ l. rw (left-past′ t (getD next t 0) l));
-        blocked-so = λ t. ap (λ (s : Set). has s t) e ∙ has-held-all waits t;
+        blocked-so = λ t l. ap (λ (s : Set). has s t) e ∙ has-held-so waits (length lengths) t l;
       }
 
   -- ---- a thread steps
 
   module _ {next waits : List ℕ} {r : Ready} {blocked : Set} (K : Kept lengths early next waits r blocked) (t : ℕ) (thread : t < mostThreads) where
-    -- a set that said p says it of t anew, where p′ differs from p at t alone
-    said-anew : (s : Set) (p p′ : ℕ → Bool) {b : Bool} → Sized s → ((u : ℕ) → has s u ≡ p u) → b ≡ p′ t → ((u : ℕ) → u ≢ t → p u ≡ p′ u) → (u : ℕ) → has (put s t b) u ≡ p′ u
-    said-anew s p p′ {b} z h e f u =
+    -- a set that said p of u says p′, which differs from p at t alone, where it is told anew of t
+    said-anew : (s : Set) (p p′ : ℕ → Bool) {b : Bool} → Sized s → b ≡ p′ t → ((u : ℕ) → u ≢ t → p u ≡ p′ u) → (u : ℕ) → has s u ≡ p u → has (put s t b) u ≡ p′ u
+    said-anew s p p′ {b} z e f u h =
         has-put s z t u b thread
-        ∙ by-cases (ℕ-discrete u t) (λ (q : u ≡ t). rw (eq-eqb u t q) (e ∙ ap p′ (sym q))) (λ (d : u ≢ t). rw (ne-eqb u t d) (h u ∙ f u d))
+        ∙ by-cases (ℕ-discrete u t) (λ (q : u ≡ t). rw (eq-eqb u t q) (e ∙ ap p′ (sym q))) (λ (d : u ≢ t). rw (ne-eqb u t d) (h ∙ f u d))
 
     module _ (wait frees : ℕ) (there : t < length waits) where
       -- where nobody is released, t alone waits anew
-      waits-anew : {now : List ℕ} → now ≡ settled t wait frees waits → frees ≡ 0 → (u : ℕ) → has (put blocked t (not (eqb wait 0))) u ≡ held now u
+      waits-anew : {now : List ℕ} → now ≡ settled t wait frees waits → frees ≡ 0 → (u : ℕ) → u < length lengths → has (put blocked t (not (eqb wait 0))) u ≡ held now u
       unfolding held
-      waits-anew {now} e z =
+      waits-anew {now} e z u l =
           let is : now ≡ set waits t wait = rw z at e ∙ released-nobody (set waits t wait) in
-          said-anew blocked (held waits) (held now) (K .sized-blocked) (K .blocked-so)
-          (sym (rw (is, getD-set-same waits t wait 0 there, lt-ltb t mostThreads thread)))
-          (λ u d. rw (is, getD-set-other waits t u wait 0 d))
+          said-anew blocked (held waits) (held now) (K .sized-blocked) (sym (rw (is, getD-set-same waits t wait 0 there, lt-ltb t mostThreads thread)))
+          (λ v d. rw (is, getD-set-other waits t v wait 0 d)) u (K .blocked-so u l)
 
-      blocked-anew : {now : List ℕ} → now ≡ settled t wait frees waits → (u : ℕ) → has (heldAfter now t wait frees blocked) u ≡ held now u
-      blocked-anew {now} e u =
-          by-cases (ℕ-discrete frees 0) (λ (z : frees ≡ 0). rw (eq-eqb frees 0 z) (waits-anew e z u))
-          (λ (n : frees ≢ 0). rw (ne-eqb frees 0 n) (has-held-all now u))
+      blocked-anew : {now : List ℕ} → now ≡ settled t wait frees waits → (u : ℕ) → u < length lengths → has (heldAfter now (length lengths) t wait frees blocked) u ≡ held now u
+      blocked-anew {now} e u l =
+          by-cases (ℕ-discrete frees 0) (λ (z : frees ≡ 0). rw (eq-eqb frees 0 z) (waits-anew e z u l))
+          (λ (n : frees ≢ 0). rw (ne-eqb frees 0 n) (has-held-so now (length lengths) u l))
 
-      sized-anew : (now : List ℕ) → Sized (heldAfter now t wait frees blocked)
+      sized-anew : (now : List ℕ) → Sized (heldAfter now (length lengths) t wait frees blocked)
       sized-anew now =
           by-cases (ℕ-discrete frees 0) (λ (z : frees ≡ 0). rw (eq-eqb frees 0 z) (sized-put blocked (K .sized-blocked) t _))
-          (λ (n : frees ≢ 0). rw (ne-eqb frees 0 n) (sized-held now mostThreads))
+          (λ (n : frees ≢ 0). rw (ne-eqb frees 0 n) (sized-held now (length lengths)))
 
       pub kept-more : {now : List ℕ} (n x : ℕ) → t < length next → now ≡ settled t wait frees waits → x ≡ firstRow lengths t + n
-          → Kept lengths early (set next t n) now (looked lengths early r t n x) (heldAfter now t wait frees blocked)
+          → Kept lengths early (set next t n) now (looked lengths early r t n x) (heldAfter now (length lengths) t wait frees blocked)
       unfolding looked
       kept-more {now} n x l e f =
           let own : getD (set next t n) t 0 ≡ n = getD-set-same next t n 0 l in
@@ -182,12 +184,12 @@ module _ (lengths : List ℕ) (early : List Bool) where
             sized-first = sized-put (r .first) (K .sized-first) t _;
             sized-blocked = sized-anew now;
             left =
-                said-anew (r .left) (λ u. hasLeft lengths u (getD next u 0)) (λ u. hasLeft lengths u (getD (set next t n) u 0)) (K .sized-left) (K .left) (rw own)
-                (λ u d. rw (other u d));
+                λ u. said-anew (r .left) (λ v. hasLeft lengths v (getD next v 0)) (λ v. hasLeft lengths v (getD (set next t n) v 0)) (K .sized-left) (rw own)
+                (λ v d. rw (other v d)) u (K .left u);
             first =
-                said-anew (r .first) (λ u. hasLeft lengths u (getD next u 0) && goesFirst early (firstRow lengths u + getD next u 0))
-                (λ u. hasLeft lengths u (getD (set next t n) u 0) && goesFirst early (firstRow lengths u + getD (set next t n) u 0)) (K .sized-first) (K .first) (rw (own, f))
-                (λ u d. rw (other u d));
+                λ u. said-anew (r .first) (λ v. hasLeft lengths v (getD next v 0) && goesFirst early (firstRow lengths v + getD next v 0))
+                (λ v. hasLeft lengths v (getD (set next t n) v 0) && goesFirst early (firstRow lengths v + getD (set next t n) v 0)) (K .sized-first) (rw (own, f))
+                (λ v d. rw (other v d)) u (K .first u);
             blocked-so = blocked-anew e;
           }
 
@@ -209,8 +211,11 @@ module _ (lengths : List ℕ) (early : List Bool) where
     pub but-left : (t : ℕ) → hasBut (r .left) blocked t ≡ mayStep lengths next waits t
     unfolding mayStep
     but-left t =
-        rw (K .left t, K .blocked-so t)
-        (⊎-elim (λ (e : hasLeft lengths t (getD next t 0) ≡ true). rw e (free-so t (left-so lengths t (getD next t 0) e .thread)))
+        rw (K .left t)
+        (⊎-elim
+        (λ (e : hasLeft lengths t (getD next t 0) ≡ true).
+        let L = left-so lengths t (getD next t 0) e in
+        rw (e, K .blocked-so t (L .there)) (free-so t (L .thread)))
         (λ (e : hasLeft lengths t (getD next t 0) ≡ false). rw e)
         (split (hasLeft lengths t (getD next t 0))))
 

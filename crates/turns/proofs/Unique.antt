@@ -4,7 +4,6 @@ use mathlib.Core.Bool.{Bool}
 use mathlib.Core.List.{List}
 use Prim.Native.Nat.{ℕ}
 use lib.ListN.{length, getD, set}
-use Rattle.tables.specs.Limits.{mostThreads}
 use Rattle.tables.specs.Lowest.{lowest}
 use Rattle.sets.specs.declared.Set.{Set}
 use Rattle.turns.specs.declared.ready.Ready.{Ready}
@@ -23,11 +22,12 @@ settle-one t wait frees waits e f = e ∙ sym f
 pub lowest-blocked-one : (waits : List ℕ) (threads : ℕ) {r s : ℕ} → r ≡ lowest (held waits) threads → s ≡ lowest (held waits) threads → r ≡ s
 lowest-blocked-one waits threads e f = e ∙ sym f
 
-pub blocked-set-one : (waits : List ℕ) {r s : Set} → r ≡ heldBelow waits mostThreads → s ≡ heldBelow waits mostThreads → r ≡ s
-blocked-set-one waits e f = e ∙ sym f
+pub blocked-set-one : (lengths waits : List ℕ) {r s : Set} → r ≡ heldBelow waits (length lengths) → s ≡ heldBelow waits (length lengths) → r ≡ s
+blocked-set-one lengths waits e f = e ∙ sym f
 
-pub blocked-after-one : (waits : List ℕ) (t wait frees : ℕ) (blocked : Set) {r s : Set} → r ≡ heldAfter waits t wait frees blocked → s ≡ heldAfter waits t wait frees blocked → r ≡ s
-blocked-after-one waits t wait frees blocked e f = e ∙ sym f
+pub blocked-after-one : (lengths waits : List ℕ) (t wait frees : ℕ) (blocked : Set) {r s : Set} → r ≡ heldAfter waits (length lengths) t wait frees blocked
+    → s ≡ heldAfter waits (length lengths) t wait frees blocked → r ≡ s
+blocked-after-one lengths waits t wait frees blocked e f = e ∙ sym f
 
 pub allows-one : (lengths : List ℕ) (t n wait : ℕ) {r s : Bool} → r ≡ mayGo lengths t n wait → s ≡ mayGo lengths t n wait → r ≡ s
 allows-one lengths t n wait e f = e ∙ sym f

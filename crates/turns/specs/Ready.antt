@@ -23,9 +23,9 @@ unfoldable pub heldBelow : List ℕ → (k : ℕ) → Set
 heldBelow waits zero = none
 heldBelow waits (suc k) = put (heldBelow waits k) k (held waits k)
 
--- those who are blocked after thread t came to wait for `wait` and those were released who waited for `frees`
-abbrev pub heldAfter : List ℕ → (t wait frees : ℕ) → Set → Set
-heldAfter waits t wait frees blocked = cond (eqb frees 0) (put blocked t (not (eqb wait 0))) (heldBelow waits mostThreads)
+-- of so many threads those who are blocked after thread t came to wait for `wait` and those were released who waited for `frees`
+abbrev pub heldAfter : List ℕ → (threads t wait frees : ℕ) → Set → Set
+heldAfter waits threads t wait frees blocked = cond (eqb frees 0) (put blocked t (not (eqb wait 0))) (heldBelow waits threads)
 
 -- the lowest thread that is not blocked and goes first, or else the lowest that is not blocked and has a command left, or the limit
 abbrev pub chosen : Ready → Set → ℕ

@@ -1,7 +1,6 @@
 // What threads wait for: 0, or a barrier plus 1.
 ghost use mathlib.Core.Path.{_≡_};
-ghost use lib.ListN.{getD, set};
-ghost use Rattle.tables.specs.Limits.{mostThreads};
+ghost use lib.ListN.{length, getD, set};
 ghost use Rattle.tables.specs.Lowest.{lowest};
 ghost use Rattle.turns.specs.Turns.{held, letGo, released, settled};
 ghost use Rattle.turns.specs.Ready.{heldBelow, heldAfter};
@@ -76,25 +75,32 @@ pub fn lowest_blocked(waits: &[u32], threads: usize) -> usize
     t
 }
 
-// Who is blocked.
-pub fn blocked_set(waits: &[u32]) -> Set
-    ensures { λ r. ⌜ r ≡ heldBelow (now (waits .entry)) mostThreads ⌝ }
+// Which of the table's threads are blocked.
+pub fn blocked_set(lengths: &[u32], waits: &[u32]) -> Set
+    ensures { λ r. ⌜ r ≡ heldBelow (now (waits .entry)) (length (now (lengths .entry))) ⌝ }
 {
     let mut blocked = Set::none();
     let mut t = 0;
-    while t < Table::THREADS {
+    while t < lengths.len() {
         blocked = blocked.put(t, is_held(waits, t));
         t += 1;
     }
     blocked
 }
 
-// Who is blocked then: only where threads were released is each one looked at.
-pub fn blocked_after(blocked: Set, waits: &[u32], t: usize, wait: u32, frees: u32) -> Set
-    ensures { λ r. ⌜ r ≡ heldAfter (now (waits .entry)) t wait frees blocked ⌝ }
+// The same after a step: only where threads were released is each one looked at.
+pub fn blocked_after(
+    blocked: Set,
+    lengths: &[u32],
+    waits: &[u32],
+    t: usize,
+    wait: u32,
+    frees: u32,
+) -> Set
+    ensures { λ r. ⌜ r ≡ heldAfter (now (waits .entry)) (length (now (lengths .entry))) t wait frees blocked ⌝ }
 {
     if frees == 0 {
         return blocked.put(t, wait != 0);
     }
-    blocked_set(waits)
+    blocked_set(lengths, waits)
 }
