@@ -4,7 +4,7 @@ use borrow.Author.Needs.{needs}
 use native.Mathlib.Omega.{arith}
 use Rattle.tables.specs.Limits.{barriers}
 use borrow.Author.Tests.{not-true, not-false}
-use Rattle.steps.proofs.Registering.{changes-not, changes-plain, changes-clash, changes-stays, changes-completes}
+use Rattle.steps.proofs.RowTests.{changes-not, changes-plain, changes-clash, changes-stays, changes-completes}
 use Rattle.steps.proofs.change.run_row.Statement.{statement}
 use Rattle.steps.proofs.change.run_row.Tie as tie
 

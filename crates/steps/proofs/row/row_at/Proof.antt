@@ -2,7 +2,7 @@
 use mathlib.Core.Path.{_∙_}
 use borrow.Author.Needs.{needs}
 use Rattle.tables.specs.Limits.{barriers}
-use Rattle.steps.proofs.Registering.{row-low, row-past, row-enters}
+use Rattle.steps.proofs.RowTests.{row-low, row-past, row-enters}
 use Rattle.steps.proofs.row.row_at.Statement.{statement}
 use Rattle.steps.proofs.row.row_at.Tie as tie
 

@@ -2,7 +2,7 @@
 use mathlib.Core.Path.{_∙_}
 use borrow.Author.Needs.{needs}
 use borrow.Author.Tests.{not-true, not-false}
-use Rattle.steps.proofs.Registering.{thread-stays, thread-goes, with-barrier}
+use Rattle.steps.proofs.RowTests.{thread-stays, thread-goes, with-barrier}
 use Rattle.steps.proofs.row.thread_row.Statement.{statement}
 use Rattle.steps.proofs.row.thread_row.Tie as tie
 
