@@ -20,18 +20,18 @@ use Rattle.notation.specs.declared.reading.Reading.the-variants.{Unfit, Over, A
 use Rattle.replay.specs.Writer.{schedule}
 use Rattle.steps.specs.Going.{played}
 use Rattle.steps.specs.Ending.{judged}
-use Rattle.verdicts.specs.InOrder.{orElse}
-use Rattle.verdicts.proofs.InOrder.{or-first, or-second}
+use Rattle.verdicts.specs.FirstTold.{orElse}
+use Rattle.verdicts.proofs.FirstTold.{or-first, or-second}
 use Rattle.replay.proofs.Places.{generation-placed}
 use Rattle.replay.proofs.Plays.{clean-through}
 use Rattle.sheet.specs.declared.Sheet.{Sheet}
 use Rattle.sheet.specs.Sheet.{pair, keptPairs}
-use Rattle.rooms.specs.Refusals.{refused}
+use Rattle.rooms.specs.Refusals.{refusal}
 use Rattle.rooms.specs.Rooms.{numberAt}
 use Rattle.rooms.proofs.Refusals.{admitted}
-use Rattle.order.proofs.Reaching.{related-reaches}
+use Rattle.happens.proofs.Reaching.{related-reaches}
 use Rattle.findings.specs.Findings.{faultTold}
-use Rattle.review.specs.Judge.{verdictOf, generations, reaches}
+use Rattle.review.specs.Judge.{verdictOf, generationsBy, reaches}
 use Rattle.review.proofs.Reviews.{refused-refusal}
 use Rattle.review.proofs.Rooms.{put-front}
 use Rattle.evidence.proofs.Verdicts as verdicts
@@ -65,13 +65,13 @@ module _ (commands lengths : List ℕ) (l : hasPairs (ofTables commands lengths 
   full : fills (toldOf commands lengths .number) ≡ true
   full = subst (λ (n : ℕ). fills n ≡ true) number-is (pairs-fill (ofTables commands lengths .told .number) l)
 
-  pub tables-pass : refused commands lengths (words mostRows) mostRows .number ≡ 0
+  pub tables-pass : refusal commands lengths (words mostRows) mostRows .number ≡ 0
   unfolding verdictOf
   tables-pass =
-      let a = refused commands lengths (words mostRows) mostRows in
+      let a = refusal commands lengths (words mostRows) mostRows in
       by-cases (ℕ-discrete (a .number) 0) (λ (e : a .number ≡ 0). e)
       (λ (n : a .number ≢ 0).
-      let f : fills (a .number) ≡ true = subst (λ (t : Told). fills (t .number) ≡ true) (sym (or-first a (orElse (judged lengths (played commands lengths σ)) (faultTold commands lengths (generations commands lengths σ) (reaches commands lengths σ))) n)) full in
+      let f : fills (a .number) ≡ true = subst (λ (t : Told). fills (t .number) ≡ true) (sym (or-first a (orElse (judged lengths (played commands lengths σ)) (faultTold commands lengths (generationsBy commands lengths σ) (reaches commands lengths σ))) n)) full in
       clashing f (refusal-unfilled (a .number) (refused-refusal commands lengths (words mostRows) mostRows n)))
 
   pub tables-gives : Gives commands lengths σ (ofTables commands lengths .told .number) (ofTables commands lengths .sheet)
@@ -79,7 +79,7 @@ module _ (commands lengths : List ℕ) (l : hasPairs (ofTables commands lengths 
   tables-gives =
       record {
         keeps = admitted commands lengths (words mostRows) mostRows tables-pass .keeps;
-        told = number-is ∙ ap (λ (t : Told). t .number) (sym (or-second (refused commands lengths (words mostRows) mostRows) _ tables-pass));
+        told = number-is ∙ ap (λ (t : Told). t .number) (sym (or-second (refusal commands lengths (words mostRows) mostRows) _ tables-pass));
         sheet = λ _. rw full;
       }
 
@@ -124,7 +124,7 @@ module _ (text : List ℕ) where
         subst (λ (k : Conclusion). Gives (commandsOf text) (lengthsOf text) (offered text) (k .told .number) (k .sheet)) (sym text-is)
         (tables-gives (commandsOf text) (lengthsOf text) (table-pairs l))
 
-    text-passes : hasPairs n ≡ true → refused (commandsOf text) (lengthsOf text) (words mostRows) mostRows .number ≡ 0
+    text-passes : hasPairs n ≡ true → refusal (commandsOf text) (lengthsOf text) (words mostRows) mostRows .number ≡ 0
     text-passes l = tables-pass (commandsOf text) (lengthsOf text) (table-pairs l)
 
   named : hasPairs n ≡ true → Named (commandsOf text) n s
@@ -212,10 +212,10 @@ module _ {text relation generations : List ℕ} {r : Concluded} {commands′ len
   unfolding textExhibits
   none-are f cs ls =
       let (a, b) = no-pairs k f in
-      by-cases (ℕ-discrete (refused cs ls (length relation′) (length generations′) .number) 0)
-      (λ (z : refused cs ls (length relation′) (length generations′) .number ≡ 0).
+      by-cases (ℕ-discrete (refusal cs ls (length relation′) (length generations′) .number) 0)
+      (λ (z : refusal cs ls (length relation′) (length generations′) .number ≡ 0).
       exhibited-all cs ls generations′ relation′ z k t ∙ exhibits-none cs ls (numberAt generations′) (related relation′ (rows cs)) k t a b)
-      (λ (d : refused cs ls (length relation′) (length generations′) .number ≢ 0). exhibited-none cs ls generations′ relation′ d k t)
+      (λ (d : refusal cs ls (length relation′) (length generations′) .number ≢ 0). exhibited-none cs ls generations′ relation′ d k t)
       ∙ sym (exhibits-none c l (generationsOf text) (reachesOf text) k t a b)
 
   pub exhibits-are : exhibited (take (r .numbers) commands′) (take (r .threads) lengths′) generations′ relation′ (r .conclusion .told .number) (r .conclusion .sheet) ≡ textExhibits text

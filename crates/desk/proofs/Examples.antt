@@ -7,7 +7,7 @@ use Rattle.tables.specs.Lowest.{lowest}
 use Rattle.rules.specs.Rules.{rowKeeps, firstBad, checked}
 use Rattle.relation.specs.Chains.{rounds}
 use Rattle.relation.specs.Table.{width}
-use Rattle.schedules.specs.Order.{edge, reach}
+use Rattle.schedules.specs.HappensBefore.{edge, reach}
 use Rattle.spelling.specs.Bytes.{classOf, run}
 use Rattle.spelling.specs.Words.{sameBytes}
 use Rattle.spelling.specs.Numbers.{mostNumber, decimal, numeralOf}
@@ -28,7 +28,7 @@ use Rattle.replay.specs.Writer.{scheduleBy, schedule}
 use Rattle.sheet.specs.Sheet.{mostKept, firsts, sheetOf}
 use Rattle.faults.specs.Faults.{succeeds, reuse, conflict, race, alongRow, allRows, faults}
 use Rattle.rooms.specs.Short.{firstShort}
-use Rattle.rooms.specs.Refusals.{refused}
+use Rattle.rooms.specs.Refusals.{refusal}
 use Rattle.review.specs.Judge.{verdictOf}
 use Rattle.printing.specs.Figures.{figuresTo, figures}
 use Rattle.desk.specs.Conclusion.{ofTables, ofText}
@@ -40,6 +40,6 @@ unfolding reports reported
     mostRows mostThreads addresses barriers mostCount total firstRow threadOf lowest rowKeeps firstBad checked rounds width edge reach
     classOf run sameBytes mostNumber decimal numeralOf cutsN flat found wordOf markOf pieceOf tokenMoves mostBytes judgedOf tooMany reading
     counted registration start held hasLeft mayStep allowed registering running stepped oneOn goOn begun played ended judged stepping scheduleBy schedule mostKept firsts sheetOf
-    succeeds reuse conflict race alongRow allRows faults firstShort refused verdictOf
+    succeeds reuse conflict race alongRow allRows faults firstShort refusal verdictOf
     figuresTo figures ofTables ofText twoNumbers verdictLine totalLine pairLines report
 every = refl

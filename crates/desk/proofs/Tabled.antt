@@ -25,9 +25,9 @@ use Rattle.steps.specs.Writing.{FilledBy}
 use Rattle.replay.proofs.Refusals.{keeps-written}
 use Rattle.findings.specs.declared.finding.Finding.{Finding}
 use Rattle.review.specs.Agreement.{Reviewed}
-use Rattle.order.specs.Order.{Reached}
+use Rattle.happens.specs.HappensBefore.{Reached}
 use Rattle.steps.specs.Going.{played}
-use Rattle.review.specs.Judge.{put, generations}
+use Rattle.review.specs.Judge.{put, generationsBy}
 use Rattle.sheet.specs.Sheet.{sheetOf}
 use Rattle.review.proofs.Bounds.{refused-checked}
 use Rattle.report.specs.declared.Conclusion.{Conclusion}
@@ -119,8 +119,8 @@ module _ {commands lengths σ relation room relation′ room′ : List ℕ} {f :
           let q = s e in
           let full : fills (numbered (f .verdict) .number) ≡ true = subst (λ (u : Told). fills (u .number) ≡ true) said (pairs-fill (t .number) l) in
           record {
-            reached = subst (λ (τ : List ℕ). Reached commands lengths (generations commands lengths τ) relation relation′) q (R .demand₂ .relation-holds full);
-            numbers = R .demand₂ .room-holds full ∙ ap (λ (τ : List ℕ). put (played commands lengths τ .generations) (rows commands) room) q;
+            reached = subst (λ (τ : List ℕ). Reached commands lengths (generationsBy commands lengths τ) relation relation′) q (R .demand₂ .relation-holds full);
+            numbers = R .demand₂ .generations-hold full ∙ ap (λ (τ : List ℕ). put (played commands lengths τ .generations) (rows commands) room) q;
           }
 
       refused-low : hasPairs (t .number) ≡ true → checked commands lengths .number ≢ 0 → ⊥

@@ -11,7 +11,7 @@ use Rattle.notation.specs.Reading.{reading, rowNumbers, threadLengths}
 use Rattle.replay.specs.Writer.{schedule}
 use Rattle.sheet.specs.Sheet.{sheetOf}
 use Rattle.findings.specs.Findings.{faultPairs}
-use Rattle.review.specs.Judge.{verdictOf, generations, reaches}
+use Rattle.review.specs.Judge.{verdictOf, generationsBy, reaches}
 use Rattle.sheet.specs.declared.Pair.{Pair}
 use Rattle.report.specs.declared.Conclusion.{Conclusion}
 
@@ -25,7 +25,7 @@ module _ (commands lengths : List ℕ) where
   toldOf = verdictOf commands lengths (schedule commands lengths) (words mostRows) mostRows
 
   abbrev pub pairsOf : List Pair
-  pairsOf = faultPairs commands lengths (generations commands lengths (schedule commands lengths)) (reaches commands lengths (schedule commands lengths))
+  pairsOf = faultPairs commands lengths (generationsBy commands lengths (schedule commands lengths)) (reaches commands lengths (schedule commands lengths))
 
   unfoldable pub ofTables : Conclusion
   ofTables = cond (fills (toldOf .number)) (record { told = toldOf; sheet = sheetOf pairsOf }) (bare toldOf)

@@ -9,7 +9,7 @@ use Rattle.notation.specs.Reading.{rowNumbers, threadLengths}
 use Rattle.replay.specs.Writer.{schedule}
 use Rattle.sheet.specs.declared.Pair.{Pair}
 use Rattle.sheet.specs.Sheet.{pair, keptPairs, firstKept}
-use Rattle.review.specs.Judge.{generations, reaches}
+use Rattle.review.specs.Judge.{generationsBy, reaches}
 use Rattle.evidence.specs.Evidence.{Disputes, HasBefore, against, firstFirst, secondFirst}
 use Rattle.exhibits.specs.Shown.{shownBy, Says}
 use Rattle.exhibits.specs.Exhibits.{exhibits}
@@ -33,7 +33,7 @@ module _ (text : List ℕ) where
   offered = schedule commandsOf lengthsOf
 
   abbrev pub generationsOf : ℕ → ℕ
-  generationsOf = generations commandsOf lengthsOf offered
+  generationsOf = generationsBy commandsOf lengthsOf offered
 
   abbrev pub reachesOf : ℕ → ℕ → Bool
   reachesOf = reaches commandsOf lengthsOf offered

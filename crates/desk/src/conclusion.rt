@@ -42,7 +42,7 @@ fn judge_tables(
     let verdict = found.verdict;
     let sheet = found.sheet;
     Conclusion {
-        told: verdict.number(),
+        told: verdict.told(),
         sheet,
     }
 }
@@ -63,7 +63,7 @@ pub(crate) fn conclude(
     let Reading::Accepted(m, t) = reading else {
         return Concluded {
             conclusion: Conclusion {
-                told: reading.number(),
+                told: reading.told(),
                 sheet: Sheet::empty(),
             },
             numbers: 0,

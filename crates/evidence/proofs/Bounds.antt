@@ -22,17 +22,17 @@ use Rattle.replay.proofs.Places.{Placed, placed}
 use Rattle.rooms.proofs.Refusals.{admitted}
 use Rattle.review.specs.Judge.{reaches}
 use Rattle.review.specs.Agreement.{number}
-use Rattle.review.proofs.Bounds.{Small, finding-small, bare-small, refused-placed}
+use Rattle.review.proofs.Bounds.{SmallNumbers, finding-small, bare-small, refused-placed}
 use Rattle.evidence.specs.declared.door.Evidence.{Evidence}
 use Rattle.evidence.specs.Evidence.{against, evidenceRoom, evidenceOf}
-use Rattle.evidence.specs.Doors.{refusedOf, Evidenced}
+use Rattle.evidence.specs.Doors.{refusalOf, Evidenced}
 use Rattle.evidence.proofs.Putting.{apart-few}
 use Rattle.evidence.proofs.Doors.{showing-passes, showing-either}
 
 module _ {commands lengths σ relation generations room : List ℕ} {r : Evidence} {relation′ generations′ room′ : List ℕ}
     (E : Evidenced commands lengths σ relation generations room r relation′ generations′ room′) where
   abbrev all : Told
-  all = refusedOf commands lengths relation generations room
+  all = refusalOf commands lengths relation generations room
 
   all-placed : Placed all
   unfolding mostRows
@@ -40,12 +40,12 @@ module _ {commands lengths σ relation generations room : List ℕ} {r : Evidenc
       showing-either commands lengths (length relation) (length generations) (length room) Placed (refused-placed commands lengths σ (length relation) (length generations))
       (placed 4 4 (omega arith)) (placed 0 0 (omega arith))
 
-  pub evidence-small : Small (r .finding)
+  pub evidence-small : SmallNumbers (r .finding)
   evidence-small =
       by-cases (ℕ-discrete (all .number) 0) (λ (z : all .number ≡ 0). finding-small (E .reviewed z))
       (λ (n : all .number ≢ 0).
       let (e, U) = E .refused n in
-      subst (λ (s : Sheet). Small (record { verdict = r .finding .verdict; sheet = s })) (sym (U .sheet)) (bare-small (r .finding .verdict) (subst Placed (sym e) all-placed)))
+      subst (λ (s : Sheet). SmallNumbers (record { verdict = r .finding .verdict; sheet = s })) (sym (U .sheet)) (bare-small (r .finding .verdict) (subst Placed (sym e) all-placed)))
 
   pub evidence-sheet : length (r .finding .sheet .pairs) ≡ mostKept
   evidence-sheet =

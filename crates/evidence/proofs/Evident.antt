@@ -15,7 +15,7 @@ use Rattle.relation.specs.Chains.{here}
 use Rattle.relation.proofs.Truth.{isnt, right}
 use Rattle.schedules.specs.Machine.{Program}
 use Rattle.schedules.specs.Threads as threads
-use Rattle.schedules.specs.Order.{Reaches, Reuse, NoReuse, reach}
+use Rattle.schedules.specs.HappensBefore.{Reaches, Reuse, NoReuse, reach}
 use Rattle.schedules.specs.Claims as claims
 use Rattle.schedules.proofs.Table.{decides}
 use Rattle.schedules.proofs.Theorems.{sound}

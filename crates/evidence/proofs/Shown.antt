@@ -17,14 +17,14 @@ use Rattle.sheet.specs.Sheet.{pair, sheetOf, keptPairs, firstKept}
 use Rattle.sheet.proofs.Sheets.{sheet-long}
 use Rattle.findings.specs.declared.finding.Finding.{Finding}
 use Rattle.findings.specs.Findings.{faultTold, faultPairs}
-use Rattle.verdicts.specs.InOrder.{orElse}
+use Rattle.verdicts.specs.FirstTold.{orElse}
 use Rattle.steps.specs.Ending.{judged}
 use Rattle.steps.specs.Going.{played}
-use Rattle.verdicts.proofs.InOrder.{or-second}
-use Rattle.rooms.specs.Refusals.{refused}
-use Rattle.order.proofs.Reaching.{related-reaches}
+use Rattle.verdicts.proofs.FirstTold.{or-second}
+use Rattle.rooms.specs.Refusals.{refusal}
+use Rattle.happens.proofs.Reaching.{related-reaches}
 use Rattle.rooms.proofs.Refusals.{Admitted, admitted}
-use Rattle.review.specs.Judge.{generations, reaches, verdictOf}
+use Rattle.review.specs.Judge.{generationsBy, reaches, verdictOf}
 use Rattle.review.specs.Agreement.{number, Reviewed}
 use Rattle.evidence.specs.Evidence.{Disputes, HasBefore, against, firstFirst, secondFirst, evidenceOf}
 use Rattle.evidence.specs.Parts.{Showable}
@@ -33,24 +33,24 @@ use Rattle.evidence.proofs.Verdicts.{Gives, ten-commands, ten-disputes,
 use Rattle.evidence.proofs.Slices.{evidence-alike, nothing-of}
 
 module _ {commands lengths σ relation room : List ℕ} {r : Finding} {relation′ room′ : List ℕ} (R : Reviewed commands lengths σ relation room r relation′ room′)
-    (pass : refused commands lengths (length relation) (length room) .number ≡ 0) where
+    (pass : refusal commands lengths (length relation) (length room) .number ≡ 0) where
   A : Admitted commands lengths (length relation) (length room)
   A = admitted commands lengths (length relation) (length room) pass
 
-  told : number r ≡ orElse (judged lengths (played commands lengths σ)) (faultTold commands lengths (generations commands lengths σ) (reaches commands lengths σ)) .number
+  told : number r ≡ orElse (judged lengths (played commands lengths σ)) (faultTold commands lengths (generationsBy commands lengths σ) (reaches commands lengths σ)) .number
   unfolding verdictOf
-  told = ap (λ (t : Told). t .number) (R .demand₂ .verdict ∙ sym (or-second (refused commands lengths (length relation) (length room)) _ pass))
+  told = ap (λ (t : Told). t .number) (R .demand₂ .verdict ∙ sym (or-second (refusal commands lengths (length relation) (length room)) _ pass))
 
   module _ (fault : hasPairs (number r) ≡ true) where
     full : fills (number r) ≡ true
     full = pairs-fill (number r) fault
 
-    sheet-is : r .sheet ≡ sheetOf (faultPairs commands lengths (generations commands lengths σ) (reaches commands lengths σ))
+    sheet-is : r .sheet ≡ sheetOf (faultPairs commands lengths (generationsBy commands lengths σ) (reaches commands lengths σ))
     sheet-is = R .demand₂ .sheet full
 
     -- what the relation room holds is what reaches what
     related-is : (c x : ℕ) → c < rows commands → x < rows commands → related relation′ (rows commands) c x ≡ reaches commands lengths σ c x
-    related-is = related-reaches commands lengths (generations commands lengths σ) relation relation′ (R .demand₂ .relation-holds full) (A .relation-fits)
+    related-is = related-reaches commands lengths (generationsBy commands lengths σ) relation relation′ (R .demand₂ .relation-holds full) (A .relation-fits)
 
   -- by the verdict and the sheet
   gives : Gives commands lengths σ (number r) (r .sheet)
@@ -77,7 +77,7 @@ module _ {commands lengths σ relation room : List ℕ} {r : Finding} {relation�
 
   some-sheet : (ps : List Pair) × (r .sheet ≡ sheetOf ps)
   some-sheet =
-      ⊎-elim (λ (t : fills (number r) ≡ true). (faultPairs commands lengths (generations commands lengths σ) (reaches commands lengths σ), R .demand₂ .sheet t))
+      ⊎-elim (λ (t : fills (number r) ≡ true). (faultPairs commands lengths (generationsBy commands lengths σ) (reaches commands lengths σ), R .demand₂ .sheet t))
       (λ (f : fills (number r) ≡ false). ([], R .demand₁ .empty f))
       (split (fills (number r)))
 

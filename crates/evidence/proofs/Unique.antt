@@ -15,15 +15,15 @@ use Rattle.review.specs.Agreement.{number}
 use Rattle.review.proofs.Unique.{review-one}
 use Rattle.evidence.specs.declared.door.Evidence.{Evidence}
 use Rattle.evidence.specs.Evidence.{evidenceOf}
-use Rattle.evidence.specs.Doors.{refusedOf, Evidenced}
+use Rattle.evidence.specs.Doors.{refusalOf, Evidenced}
 
 module _ (commands lengths σ relation generations room : List ℕ) (a b : Evidence) {ra ga ea rb gb eb : List ℕ} (wa : Words ra) (wb : Words rb)
     (A : Evidenced commands lengths σ relation generations room a ra ga ea) (B : Evidenced commands lengths σ relation generations room b rb gb eb) where
   -- words of 32 bits stand in the relation rooms
   pub evidence-one : (a ≡ b) × (ra ≡ rb) × (ga ≡ gb) × (ea ≡ eb)
   evidence-one =
-      by-cases (ℕ-discrete (refusedOf commands lengths relation generations room .number) 0)
-      (λ (z : refusedOf commands lengths relation generations room .number ≡ 0).
+      by-cases (ℕ-discrete (refusalOf commands lengths relation generations room .number) 0)
+      (λ (z : refusalOf commands lengths relation generations room .number ≡ 0).
       let (f, q, g) = review-one commands lengths σ relation generations (a .finding) (b .finding) wa wb (A .reviewed z) (B .reviewed z) in
       let x = A .holds z .written in
       let y = B .holds z .written in
@@ -34,7 +34,7 @@ module _ (commands lengths σ relation generations room : List ℕ) (a b : Evide
         g,
         x .room ∙ ap₂ (λ (τ : List ℕ) (n : ℕ). τ ++ drop n room) s n ∙ sym (y .room),
       ))
-      (λ (m : refusedOf commands lengths relation generations room .number ≢ 0).
+      (λ (m : refusalOf commands lengths relation generations room .number ≢ 0).
       let (d, x) = A .refused m in
       let (e, y) = B .refused m in
       let f : a .finding ≡ b .finding =

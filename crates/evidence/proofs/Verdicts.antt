@@ -16,7 +16,7 @@ use Rattle.verdicts.specs.declared.Told.{Told}
 use Rattle.verdicts.proofs.Numbers.{pairs-fill, ending-unfilled}
 use Rattle.relation.proofs.Truth.{clashing}
 use Rattle.schedules.specs.Machine.{Program}
-use Rattle.schedules.specs.Order.{reach, Reuse, NoReuse}
+use Rattle.schedules.specs.HappensBefore.{reach, Reuse, NoReuse}
 use Rattle.schedules.specs.Threads as threads
 use Rattle.sheet.specs.declared.Pair.{Pair}
 use Rattle.sheet.specs.declared.Sheet.{Sheet}
@@ -27,15 +27,15 @@ use Rattle.faults.specs.declared.faults.Fault.the-variants as fault
 use Rattle.faults.specs.Faults.{faults, race, pairOf, faulty}
 use Rattle.findings.specs.Findings.{firstPair, orPairs, faultTold, faultPairs}
 use Rattle.faults.proofs.Pairs.{in-order, reuse-is, race-is}
-use Rattle.verdicts.specs.InOrder.{orElse}
+use Rattle.verdicts.specs.FirstTold.{orElse}
 use Rattle.steps.specs.Ending.{judged}
 use Rattle.steps.specs.Going.{played}
 use Rattle.programs.specs.Program.{program}
 use Rattle.replay.specs.Schedules.{Clean}
 use Rattle.replay.proofs.Judged.{judged-ending, clean-told}
 use Rattle.programs.proofs.Programs as programs
-use Rattle.verdicts.proofs.InOrder.{or-first, or-second}
-use Rattle.review.specs.Judge.{generations, reaches}
+use Rattle.verdicts.proofs.FirstTold.{or-first, or-second}
+use Rattle.review.specs.Judge.{generationsBy, reaches}
 use Rattle.review.specs.Agreement.{number}
 use Rattle.review.proofs.Judging.{settled}
 use Rattle.evidence.specs.Evidence.{Disputes, HasBefore, against, firstFirst, secondFirst}
@@ -66,15 +66,15 @@ by-eleven [] qs e = (refl, refl)
 
 pub record Gives (commands lengths σ : List ℕ) (n : ℕ) (s : Sheet) : Type 0 where
   pub keeps : Keeps commands lengths
-  pub told : n ≡ orElse (judged lengths (played commands lengths σ)) (faultTold commands lengths (generations commands lengths σ) (reaches commands lengths σ)) .number
-  pub sheet : hasPairs n ≡ true → s ≡ sheetOf (faultPairs commands lengths (generations commands lengths σ) (reaches commands lengths σ))
+  pub told : n ≡ orElse (judged lengths (played commands lengths σ)) (faultTold commands lengths (generationsBy commands lengths σ) (reaches commands lengths σ)) .number
+  pub sheet : hasPairs n ≡ true → s ≡ sheetOf (faultPairs commands lengths (generationsBy commands lengths σ) (reaches commands lengths σ))
 
 module _ {commands lengths σ : List ℕ} {n : ℕ} {s : Sheet} (G : Gives commands lengths σ n s) where
   abbrev P : Program
   P = program commands lengths
 
   abbrev g : ℕ → ℕ
-  g = generations commands lengths σ
+  g = generationsBy commands lengths σ
 
   abbrev found : Fault → List Pair
   found = faults commands lengths g (reach P g)

@@ -12,26 +12,27 @@ use Rattle.verdicts.specs.Numbers.{hasPairs}
 use Rattle.verdicts.specs.declared.Told.{Told}
 use Rattle.sheet.specs.declared.Pair.{Pair}
 use Rattle.sheet.specs.Sheet.{pair, sheetOf, keptPairs}
-use Rattle.verdicts.specs.InOrder.{orElse}
+use Rattle.verdicts.specs.FirstTold.{orElse}
 use Rattle.steps.specs.Writing.{FilledBy}
 use Rattle.rooms.specs.Short.{roomOf, firstShort}
-use Rattle.rooms.specs.Refusals.{reviewRooms, refused}
+use Rattle.rooms.specs.Refusals.{reviewRooms, refusal}
 use Rattle.review.specs.Judge.{reaches}
 use Rattle.review.specs.Agreement.{number, Reviewed}
 use Rattle.evidence.specs.declared.door.Evidence.{Evidence}
 use Rattle.evidence.specs.Evidence.{Disputes, HasBefore, evidenceRoom, evidenceOf}
 
 -- the rooms of a review with evidence, the lowest digit first: those of a review, and the evidence room (4)
-abbrev pub evidenceRooms : (m relation generations given : ℕ) → List (List ℕ)
-evidenceRooms m relation generations given = reviewRooms m relation generations ++ roomOf 4 (evidenceRoom m) given ∷ []
+abbrev pub evidenceRooms : (m relationLength generationLength given : ℕ) → List (List ℕ)
+evidenceRooms m relationLength generationLength given = reviewRooms m relationLength generationLength ++ roomOf 4 (evidenceRoom m) given ∷ []
 
 -- 1 to 4, of tables and the lengths of the three rooms
-unfoldable pub refusedShowing : List ℕ → List ℕ → (relation generations room : ℕ) → Told
-refusedShowing commands lengths relation generations room = orElse (checked commands lengths) (firstShort (evidenceRooms (rows commands) relation generations room))
+unfoldable pub evidenceRefusal : List ℕ → List ℕ → (relationLength generationLength given : ℕ) → Told
+evidenceRefusal commands lengths relationLength generationLength given =
+    orElse (checked commands lengths) (firstShort (evidenceRooms (rows commands) relationLength generationLength given))
 
 -- the same of three rooms that are lent
-abbrev pub refusedOf : (commands lengths relation generations room : List ℕ) → Told
-refusedOf commands lengths relation generations room = refusedShowing commands lengths (length relation) (length generations) (length room)
+abbrev pub refusalOf : (commands lengths relation generations room : List ℕ) → Told
+refusalOf commands lengths relation generations room = evidenceRefusal commands lengths (length relation) (length generations) (length room)
 
 -- the i-th of schedules of m entries each that stand end to end
 abbrev pub scheduleAt : ℕ → ℕ → List ℕ → List ℕ
@@ -57,7 +58,7 @@ pub record HoldsEvidence (commands lengths schedule room : List ℕ) (r : Eviden
 
 -- Tables and rooms pass.
 pub record Admissible (commands lengths relation generations room : List ℕ) : Type 0 where
-  pub admitted : refused commands lengths (length relation) (length generations) .number ≡ 0
+  pub admitted : refusal commands lengths (length relation) (length generations) .number ≡ 0
   pub fits : evidenceRoom (rows commands) ≤ length room
 
 -- Nothing was done.
@@ -70,8 +71,8 @@ pub record Untouched (relation generations room : List ℕ) (r : Evidence) (rela
 
 -- The contract of `review_evidence`: 1 to 4 with nothing done; or the review as it is without evidence, and the evidence.
 pub record Evidenced (commands lengths schedule relation generations room : List ℕ) (r : Evidence) (relation′ generations′ room′ : List ℕ) : Type 0 where
-  pub refused : refusedOf commands lengths relation generations room .number ≢ 0
-      → (numbered (r .finding .verdict) ≡ refusedOf commands lengths relation generations room) × Untouched relation generations room r relation′ generations′ room′
-  pub reviewed : refusedOf commands lengths relation generations room .number ≡ 0
+  pub refused : refusalOf commands lengths relation generations room .number ≢ 0
+      → (numbered (r .finding .verdict) ≡ refusalOf commands lengths relation generations room) × Untouched relation generations room r relation′ generations′ room′
+  pub reviewed : refusalOf commands lengths relation generations room .number ≡ 0
       → Reviewed commands lengths schedule relation generations (r .finding) relation′ generations′
-  pub holds : refusedOf commands lengths relation generations room .number ≡ 0 → HoldsEvidence commands lengths schedule room r room′
+  pub holds : refusalOf commands lengths relation generations room .number ≡ 0 → HoldsEvidence commands lengths schedule room r room′

@@ -4,7 +4,7 @@ ghost use Rattle.steps.specs.Writing.{FilledBy};
 ghost use Rattle.evidence.specs.Parts.{evidenceIn, Showable};
 ghost use Rattle.review.specs.Agreement.{Reviewed};
 ghost use Rattle.verdicts.specs.Verdicts.{numbered};
-ghost use Rattle.evidence.specs.Doors.{refusedShowing, HoldsEvidence, Admissible, Evidenced};
+ghost use Rattle.evidence.specs.Doors.{evidenceRefusal, HoldsEvidence, Admissible, Evidenced};
 use crate::writing::write_at;
 use crate::writing::write_races;
 use findings::Finding;
@@ -86,7 +86,7 @@ fn review_shown(
     let finding = review(commands, lengths, schedule, relation, generations);
     let verdict = finding.verdict;
     let sheet = finding.sheet;
-    let number = verdict.number().number;
+    let number = verdict.told().number;
     let entries = show(commands, lengths, relation, number, sheet, room);
     Evidence { finding, entries }
 }
@@ -95,18 +95,18 @@ fn review_shown(
 fn refuse_showing(
     commands: &[u32],
     lengths: &[u32],
-    relation: usize,
-    generations: usize,
-    room: usize,
+    relation_len: usize,
+    generation_len: usize,
+    given: usize,
 ) -> Verdict
-    ensures { λ r. ⌜ numbered r ≡ refusedShowing (now (commands .entry)) (now (lengths .entry)) relation generations room ⌝ }
+    ensures { λ r. ⌜ numbered r ≡ evidenceRefusal (now (commands .entry)) (now (lengths .entry)) relation_len generation_len given ⌝ }
 {
-    let refusal = refuse(commands, lengths, relation, generations);
-    if refusal.number().number != 0 {
+    let refusal = refuse(commands, lengths, relation_len, generation_len);
+    if refusal.told().number != 0 {
         return refusal;
     }
     let needed = Evidence::ROOM * (commands.len() / 3);
-    short_room(&[[4, needed, room]])
+    short_room(&[[4, needed, given]])
 }
 
 // Any tables, any schedule, any rooms. All rooms are tested before one is touched.
@@ -129,7 +129,7 @@ pub fn review_evidence(
         generations.len(),
         room.len(),
     );
-    if refusal.number().number != 0 {
+    if refusal.told().number != 0 {
         return nothing(bare(refusal));
     }
     review_shown(commands, lengths, schedule, relation, generations, room)

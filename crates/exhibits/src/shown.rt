@@ -24,7 +24,7 @@ fn end_of(commands: &[u32], lengths: &[u32], schedule: &[u32]) -> End
     let verdict = judged.verdict;
     let generations = judged.generations;
     End {
-        told: verdict.number(),
+        told: verdict.told(),
         generations,
     }
 }

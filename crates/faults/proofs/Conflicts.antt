@@ -11,7 +11,7 @@ use borrow.Author.Tests.{eq-eqb, lt-leb, ltb-true, eqb-true}
 use Rattle.tables.specs.Rows.{rows, kind, name, write, arrive, threadOf, registers}
 use Rattle.rules.specs.Rules.{Keeps}
 use Rattle.relation.proofs.Truth.{split, clashing, both, pair, either, left, right}
-use Rattle.schedules.specs.Order.{Reaches, reach}
+use Rattle.schedules.specs.HappensBefore.{Reaches, reach}
 use Rattle.schedules.proofs.Theorems.{decides}
 use Rattle.faults.specs.declared.faults.Fault.the-variants as fault
 use Rattle.programs.specs.Program.{program}

@@ -13,7 +13,7 @@ use Rattle.tables.specs.Rows.{rows, threadOf, isFirst}
 use Rattle.tables.proofs.Rows.{past-first}
 use Rattle.relation.proofs.Truth.{clashing, split, isnt, both, pair, either, left, right}
 use Rattle.schedules.specs.Machine.{Program}
-use Rattle.schedules.specs.Order.{Reaches, reach, Reuse, Succeeds}
+use Rattle.schedules.specs.HappensBefore.{Reaches, reach, Reuse, Succeeds}
 use Rattle.schedules.proofs.Table.{decides}
 use Rattle.sheet.specs.declared.Pair.{Pair}
 use Rattle.faults.specs.declared.faults.Fault.{Fault}

@@ -8,16 +8,16 @@ use borrow.Author.Tests.{eq-eqb, ne-eqb}
 use Rattle.verdicts.specs.Verdicts.{numbered}
 use Rattle.verdicts.specs.declared.Told.{Told}
 use Rattle.verdicts.specs.declared.Verdict.{Verdict}
-use Rattle.verdicts.proofs.InOrder.{or-first, or-second}
+use Rattle.verdicts.proofs.FirstTold.{or-first, or-second}
 use Rattle.sheet.specs.Sheet.{sheetOf}
 use Rattle.findings.specs.declared.finding.Finding.{Finding}
-use Rattle.rooms.specs.Refusals.{refusedSizes}
+use Rattle.rooms.specs.Refusals.{sizeRefusal}
 use Rattle.findings.specs.Findings.{Finds}
 use Rattle.findings.specs.Searches.{LookedOver}
 
 module _ (commands lengths generations relation : List ℕ) where
   abbrev told : Told
-  told = refusedSizes commands (length relation) (length generations)
+  told = sizeRefusal commands (length relation) (length generations)
 
   pub finds-refused : (v : Verdict) → numbered v ≡ told → numbered v .number ≢ 0
       → Finds commands lengths generations relation (record { verdict = v; sheet = sheetOf [] })

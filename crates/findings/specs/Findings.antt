@@ -9,12 +9,12 @@ use Rattle.tables.specs.Rows.{rows}
 use Rattle.verdicts.specs.Verdicts.{tell, numbered}
 use Rattle.verdicts.specs.declared.Told.{Told}
 use Rattle.relation.specs.Table.{related}
-use Rattle.verdicts.specs.InOrder.{orElse}
+use Rattle.verdicts.specs.FirstTold.{orElse}
 use Rattle.sheet.specs.declared.Pair.{Pair}
 use Rattle.sheet.specs.Sheet.{sheetOf}
 use Rattle.faults.specs.declared.faults.Fault.the-variants.{Reuse, Race}
 use Rattle.findings.specs.declared.finding.Finding.{Finding}
-use Rattle.rooms.specs.Refusals.{refusedSizes}
+use Rattle.rooms.specs.Refusals.{sizeRefusal}
 use Rattle.rooms.specs.Rooms.{numberAt}
 use Rattle.faults.specs.Faults.{faults}
 
@@ -40,11 +40,11 @@ module _ (commands lengths : List ℕ) (g : ℕ → ℕ) (ρ : ℕ → ℕ → B
 pub record Finds (commands lengths generations relation : List ℕ) (r : Finding) : Type 0 where
   pub verdict :
       numbered (r .verdict)
-      ≡ orElse (refusedSizes commands (length relation) (length generations))
+      ≡ orElse (sizeRefusal commands (length relation) (length generations))
       (faultTold commands lengths (numberAt generations) (related relation (rows commands)))
   pub sheet :
       r .sheet
       ≡ sheetOf
-      (cond (eqb (refusedSizes commands (length relation) (length generations) .number) 0)
+      (cond (eqb (sizeRefusal commands (length relation) (length generations) .number) 0)
       (faultPairs commands lengths (numberAt generations) (related relation (rows commands)))
       [])

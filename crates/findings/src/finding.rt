@@ -101,7 +101,7 @@ pub fn find_faults(
     ensures { λ r. ⌜ Finds (now (commands .entry)) (now (lengths .entry)) (now (generations .entry)) (now (relation .entry)) r ⌝ }
 {
     let refusal = refuse_sizes(commands, relation.len(), generations.len());
-    if refusal.number().number != 0 {
+    if refusal.told().number != 0 {
         return bare(refusal);
     }
     look_over(commands, lengths, generations, relation)

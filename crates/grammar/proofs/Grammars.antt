@@ -12,7 +12,7 @@ use Rattle.spelling.proofs.Machines.{found-none}
 use Rattle.grammar.specs.declared.tokens.Token.{Token}
 use Rattle.grammar.specs.declared.tokens.Token.the-variants.{Access, Signal, Return, Number, Semi, Bars}
 use Rattle.grammar.specs.declared.automaton.State.{State}
-use Rattle.grammar.specs.declared.automaton.State.the-variants.{Word, Address, Barrier, Count, Close, Part}
+use Rattle.grammar.specs.declared.automaton.State.the-variants.{Word, Address, Barrier, Count, Close, Parting}
 use Rattle.grammar.specs.Tokens.{sizeOf, tokenOf}
 use Rattle.grammar.specs.Spelling.{Spelling, extends, returnWord}
 use Rattle.grammar.specs.Grammar as G
@@ -33,7 +33,7 @@ Left (Address k) ts = (g : ℕ) × (cs : List G.Command) × (us : List (List G.C
 Left (Barrier k) ts = (b : ℕ) × (n : ℕ) × (cs : List G.Command) × (us : List (List G.Command)) × (ts ≡ Number b ∷ Number n ∷ Semi ∷ rest cs us)
 Left (Count k b) ts = (n : ℕ) × (cs : List G.Command) × (us : List (List G.Command)) × (ts ≡ Number n ∷ Semi ∷ rest cs us)
 Left Close ts = (cs : List G.Command) × (us : List (List G.Command)) × (ts ≡ Semi ∷ rest cs us)
-Left Part ts = (us : List (List G.Command)) × (ts ≡ behind us)
+Left Parting ts = (us : List (List G.Command)) × (ts ≡ behind us)
 
 -- one token back
 module _ (u : State) (ts : List Token) (h : Left u ts) where
@@ -49,7 +49,7 @@ module _ (u : State) (ts : List Token) (h : Left u ts) where
       by-step (λ s t m. To (move m) u → Left s (t ∷ ts)) (λ s t g. absurd g)
       (λ k e. let (g, cs, us, q) = on (Address k) e in (access k g ∷ cs, us, before (Access k) q))
       (λ k e. let (b, n, cs, us, q) = on (Barrier k) e in (signal k b n ∷ cs, us, before (Signal k) q))
-      (λ e. let (us, q) = on Part e in ([], us, before Return q))
+      (λ e. let (us, q) = on Parting e in ([], us, before Return q))
       (λ k g e. let (cs, us, q) = on Close e in (g, cs, us, before (Number g) q))
       (λ k b e. let (n, cs, us, q) = on (Count k b) e in (b, n, cs, us, before (Number b) q))
       (λ k b n e. let (cs, us, q) = on Close e in (n, cs, us, before (Number n) q))
@@ -64,7 +64,7 @@ left-end (Address k) e = absurd (true≢false (sym e))
 left-end (Barrier k) e = absurd (true≢false (sym e))
 left-end (Count k b) e = absurd (true≢false (sym e))
 left-end Close e = absurd (true≢false (sym e))
-left-end Part e = ([], refl)
+left-end Parting e = ([], refl)
 
 left : (ts : List Token) (s u : State) → Walk nextMove ts s u → mayEnd u ≡ true → Left s ts
 left [] s u w e = left-end s (ap mayEnd w ∙ e)
@@ -103,15 +103,15 @@ two-spelt = token (48 ∷ 32 ∷ 48 ∷ 59 ∷ returnWord) (48 ∷ []) (32 ∷ 4
 
 live : (s : State) → (w : List ℕ) × (ts : List Token) × (u : State) × Spells w ts × Walk nextMove ts s u × (mayEnd u ≡ true)
 unfolding tokenMoves
-live Word = (returnWord, Return ∷ [], Part, return-spelt, (Part, refl, refl), refl)
+live Word = (returnWord, Return ∷ [], Parting, return-spelt, (Parting, refl, refl), refl)
 live (Address k) =
-    (48 ∷ 59 ∷ returnWord, Number 0 ∷ Semi ∷ Return ∷ [], Part, number-spelt, (Close, refl, (Word, refl, (Part, refl, refl))), refl)
+    (48 ∷ 59 ∷ returnWord, Number 0 ∷ Semi ∷ Return ∷ [], Parting, number-spelt, (Close, refl, (Word, refl, (Parting, refl, refl))), refl)
 live (Barrier k) =
-    (48 ∷ 32 ∷ 48 ∷ 59 ∷ returnWord, Number 0 ∷ Number 0 ∷ Semi ∷ Return ∷ [], Part, two-spelt, (Count k 0, refl, (Close, refl, (Word, refl, (Part, refl, refl)))), refl)
+    (48 ∷ 32 ∷ 48 ∷ 59 ∷ returnWord, Number 0 ∷ Number 0 ∷ Semi ∷ Return ∷ [], Parting, two-spelt, (Count k 0, refl, (Close, refl, (Word, refl, (Parting, refl, refl)))), refl)
 live (Count k b) =
-    (48 ∷ 59 ∷ returnWord, Number 0 ∷ Semi ∷ Return ∷ [], Part, number-spelt, (Close, refl, (Word, refl, (Part, refl, refl))), refl)
-live Close = (59 ∷ returnWord, Semi ∷ Return ∷ [], Part, close-spelt, (Word, refl, (Part, refl, refl)), refl)
-live Part = (124 ∷ 124 ∷ returnWord, Bars ∷ Return ∷ [], Part, part-spelt, (Word, refl, (Part, refl, refl)), refl)
+    (48 ∷ 59 ∷ returnWord, Number 0 ∷ Semi ∷ Return ∷ [], Parting, number-spelt, (Close, refl, (Word, refl, (Parting, refl, refl))), refl)
+live Close = (59 ∷ returnWord, Semi ∷ Return ∷ [], Parting, close-spelt, (Word, refl, (Parting, refl, refl)), refl)
+live Parting = (124 ∷ 124 ∷ returnWord, Bars ∷ Return ∷ [], Parting, part-spelt, (Word, refl, (Parting, refl, refl)), refl)
 
 -- what goes on is a token of the notation
 fits : (s : State) (t : Token) (u : State) → Goes nextMove s t u → Fits t

@@ -109,15 +109,15 @@ word-spelt w r z =
 number-spelt : (w r : List ℕ) → run (is digit) r ≡ 0 → Spelt w r (numberOf w)
 number-spelt w r z = by-number (Spelt w r) w (λ n m f. (m, z)) (λ f. absurd f)
 
-cuts : (s : List ℕ) → Spelt (take (sizeOf s) s) (drop (sizeOf s) s) (tokenOf s)
-cuts s =
+spots : (s : List ℕ) → Spelt (take (sizeOf s) s) (drop (sizeOf s) s) (tokenOf s)
+spots s =
     by-piece (λ p. Spelt (take (p .size) s) (drop (p .size) s) (p .token)) s (λ e. word-spelt _ _ (run-stops (is letter) s))
     (λ e. number-spelt _ _ (run-stops (is digit) s))
     (λ e f. (e, run-none-at (λ b. false) (drop 1 s) refl)) (λ e f. (e, run-none-at (λ b. false) (drop 2 s) refl)) (λ f. absurd f)
 
 module _ (s : List ℕ) (h : 0 < length s) (f : Fits (tokenOf s)) where
   pub spelt : Spelling (take (sizeOf s) s) (tokenOf s)
-  spelt = cuts s f .0
+  spelt = spots s f .0
 
   pub apart : run (extends (tokenOf s)) (drop (sizeOf s) s) ≡ 0
-  apart = cuts s f .1
+  apart = spots s f .1

@@ -8,13 +8,13 @@ use native.Mathlib.Omega.{arith}
 use lib.ListN.{length}
 use Rattle.spelling.specs.Machine.{Row, outcome, found}
 use Rattle.grammar.specs.declared.tokens.Token.{Token}
-use Rattle.grammar.specs.declared.automaton.State.the-variants.{Word, Part}
+use Rattle.grammar.specs.declared.automaton.State.the-variants.{Word, Parting}
 use Rattle.grammar.specs.Grammar as G
 use Rattle.grammar.specs.Grammar.{access, signal, threadTokens, behind, Listing, listingTokens, rowOf, allCommands, listingRows, listingLengths}
 use Rattle.grammar.specs.Automaton.{tokenMoves, mayEnd, nextMove}
 
 -- a thread's tokens, where what follows them is found to be rows and lengths
-thread-found : (cs : List G.Command) (ts : List Token) (n : ℕ) (rs : List Row) (ls : List ℕ) → found nextMove mayEnd ts Part 0 ≡ outcome rs ls none
+thread-found : (cs : List G.Command) (ts : List Token) (n : ℕ) (rs : List Row) (ls : List ℕ) → found nextMove mayEnd ts Parting 0 ≡ outcome rs ls none
     → found nextMove mayEnd (threadTokens cs ++ ts) Word n ≡ outcome (map rowOf cs ++ rs) ((n + length cs) ∷ ls) none
 unfolding found tokenMoves threadTokens
 thread-found [] ts n rs ls e = let z : n + 0 ≡ n = omega arith in rw (e, z)
@@ -29,7 +29,7 @@ map-append : (cs ds : List G.Command) → map rowOf (cs ++ ds) ≡ map rowOf cs 
 map-append [] ds = refl
 map-append (c ∷ cs) ds = ap (λ (l : List Row). rowOf c ∷ l) (map-append cs ds)
 
-behind-found : (us : List (List G.Command)) → found nextMove mayEnd (behind us) Part 0 ≡ outcome (map rowOf (allCommands us)) (map (λ (t : List G.Command). length t) us) none
+behind-found : (us : List (List G.Command)) → found nextMove mayEnd (behind us) Parting 0 ≡ outcome (map rowOf (allCommands us)) (map (λ (t : List G.Command). length t) us) none
 unfolding found tokenMoves behind allCommands
 behind-found [] = refl
 behind-found (u ∷ us) =

@@ -72,7 +72,7 @@ by-number P w f m = by-numeral (numeralOf w) refl
   where
     by-numeral : (x : Numeral) → numeralOf w ≡ x → P (numeral x)
     by-numeral (N.Number n) e = f n (number-means w n e)
-    by-numeral N.Unfit e = m
+    by-numeral N.NotNumber e = m
 
 pub by-piece : (P : Piece → Type 0) (s : List ℕ)
     → (is letter (getD s 0 0) ≡ true → P (sized (wordOf (take (run (is letter) s) s)) (run (is letter) s)))

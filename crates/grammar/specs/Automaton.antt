@@ -5,12 +5,12 @@ use Rattle.spelling.specs.Machine.{Move, refuse, on, rowDone, threadDone, row}
 use Rattle.grammar.specs.declared.tokens.Token.{Token}
 use Rattle.grammar.specs.declared.tokens.Token.the-variants.{Access, Signal, Return, Number, Semi, Bars, Misfit}
 use Rattle.grammar.specs.declared.automaton.State.{State}
-use Rattle.grammar.specs.declared.automaton.State.the-variants.{Word, Address, Barrier, Count, Close, Part}
-use Rattle.grammar.specs.declared.automaton.Moved.{Moved}
-use Rattle.grammar.specs.declared.automaton.Moved.the-variants.{Refuse, On, Row, Thread}
+use Rattle.grammar.specs.declared.automaton.State.the-variants.{Word, Address, Barrier, Count, Close, Parting}
+use Rattle.grammar.specs.declared.automaton.TokenMove.{TokenMove}
+use Rattle.grammar.specs.declared.automaton.TokenMove.the-variants.{Refuse, On, Row, Thread}
 
 -- where the word of a command or `return` is expected
-abbrev pub atWord : Token → Moved
+abbrev pub atWord : Token → TokenMove
 atWord (Access k) = On (Address k)
 atWord (Signal k) = On (Barrier k)
 atWord Return = Thread
@@ -20,7 +20,7 @@ atWord Bars = Refuse
 atWord Misfit = Refuse
 
 -- where a number is expected
-abbrev pub atNumber : (ℕ → Moved) → Token → Moved
+abbrev pub atNumber : (ℕ → TokenMove) → Token → TokenMove
 atNumber f (Access k) = Refuse
 atNumber f (Signal k) = Refuse
 atNumber f Return = Refuse
@@ -30,7 +30,7 @@ atNumber f Bars = Refuse
 atNumber f Misfit = Refuse
 
 -- where `;` is expected
-abbrev pub atClose : Token → Moved
+abbrev pub atClose : Token → TokenMove
 atClose (Access k) = Refuse
 atClose (Signal k) = Refuse
 atClose Return = Refuse
@@ -40,22 +40,22 @@ atClose Bars = Refuse
 atClose Misfit = Refuse
 
 -- where `||` is expected
-abbrev pub atPart : Token → Moved
-atPart (Access k) = Refuse
-atPart (Signal k) = Refuse
-atPart Return = Refuse
-atPart (Number n) = Refuse
-atPart Semi = Refuse
-atPart Bars = On Word
-atPart Misfit = Refuse
+abbrev pub atParting : Token → TokenMove
+atParting (Access k) = Refuse
+atParting (Signal k) = Refuse
+atParting Return = Refuse
+atParting (Number n) = Refuse
+atParting Semi = Refuse
+atParting Bars = On Word
+atParting Misfit = Refuse
 
-unfoldable pub tokenMoves : State → Token → Moved
+unfoldable pub tokenMoves : State → Token → TokenMove
 tokenMoves Word t = atWord t
 tokenMoves (Address k) t = atNumber (λ g. Row k g 0) t
 tokenMoves (Barrier k) t = atNumber (λ b. On (Count k b)) t
 tokenMoves (Count k b) t = atNumber (λ n. Row k b n) t
 tokenMoves Close t = atClose t
-tokenMoves Part t = atPart t
+tokenMoves Parting t = atParting t
 
 -- may the text end here?
 abbrev pub mayEnd : State → Bool
@@ -64,14 +64,14 @@ mayEnd (Address k) = false
 mayEnd (Barrier k) = false
 mayEnd (Count k b) = false
 mayEnd Close = false
-mayEnd Part = true
+mayEnd Parting = true
 
 -- what is expected after a row is `;`, and after a thread `||` or the end
-abbrev pub move : Moved → Move State
+abbrev pub move : TokenMove → Move State
 move Refuse = refuse
 move (On s) = on s
 move (Row k n c) = rowDone (row k n c) Close
-move Thread = threadDone Part
+move Thread = threadDone Parting
 
 abbrev pub nextMove : State → Token → Move State
 nextMove s t = move (tokenMoves s t)

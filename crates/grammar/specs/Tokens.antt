@@ -27,7 +27,7 @@ wordOf w =
 
 abbrev pub numeral : Numeral → Token
 numeral (N.Number n) = Number n
-numeral N.Unfit = Misfit
+numeral N.NotNumber = Misfit
 
 abbrev pub numberOf : List ℕ → Token
 numberOf w = numeral (numeralOf w)

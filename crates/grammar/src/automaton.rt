@@ -15,56 +15,56 @@ pub enum State {
     // `;`
     Close,
     // `||`, or the end
-    Part,
+    Parting,
 }
 
 // What a token does: it doesn't fit; it leads on; it completes a row, or a thread.
-pub enum Moved {
+pub enum TokenMove {
     Refuse,
     On(State),
     Row(u32, u32, u32),
     Thread,
 }
 
-pub fn step(state: State, token: Token) -> Moved
+pub fn take_token(state: State, token: Token) -> TokenMove
     ensures { λ r. ⌜ r ≡ tokenMoves state token ⌝ }
 {
     match state {
         State::Word => match token {
-            Token::Access(kind) => Moved::On(State::Address(kind)),
-            Token::Signal(kind) => Moved::On(State::Barrier(kind)),
-            Token::Return => Moved::Thread,
-            _ => Moved::Refuse,
+            Token::Access(kind) => TokenMove::On(State::Address(kind)),
+            Token::Signal(kind) => TokenMove::On(State::Barrier(kind)),
+            Token::Return => TokenMove::Thread,
+            _ => TokenMove::Refuse,
         },
         State::Address(kind) => match token {
-            Token::Number(address) => Moved::Row(kind, address, 0),
-            _ => Moved::Refuse,
+            Token::Number(address) => TokenMove::Row(kind, address, 0),
+            _ => TokenMove::Refuse,
         },
         State::Barrier(kind) => match token {
-            Token::Number(barrier) => Moved::On(State::Count(kind, barrier)),
-            _ => Moved::Refuse,
+            Token::Number(barrier) => TokenMove::On(State::Count(kind, barrier)),
+            _ => TokenMove::Refuse,
         },
         State::Count(kind, barrier) => match token {
-            Token::Number(count) => Moved::Row(kind, barrier, count),
-            _ => Moved::Refuse,
+            Token::Number(count) => TokenMove::Row(kind, barrier, count),
+            _ => TokenMove::Refuse,
         },
         State::Close => match token {
-            Token::Semi => Moved::On(State::Word),
-            _ => Moved::Refuse,
+            Token::Semi => TokenMove::On(State::Word),
+            _ => TokenMove::Refuse,
         },
-        State::Part => match token {
-            Token::Bars => Moved::On(State::Word),
-            _ => Moved::Refuse,
+        State::Parting => match token {
+            Token::Bars => TokenMove::On(State::Word),
+            _ => TokenMove::Refuse,
         },
     }
 }
 
 // May the text end here?
-pub fn ends(state: State) -> bool
+pub fn may_end(state: State) -> bool
     ensures { λ r. ⌜ r ≡ mayEnd state ⌝ }
 {
     match state {
-        State::Part => true,
+        State::Parting => true,
         _ => false,
     }
 }

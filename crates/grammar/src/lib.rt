@@ -2,10 +2,10 @@
 mod automaton; // what is expected next, and what a token does
 mod tokens; // the tokens of a text
 
-pub use automaton::Moved;
 pub use automaton::State;
-pub use automaton::ends;
-pub use automaton::step;
+pub use automaton::TokenMove;
+pub use automaton::may_end;
+pub use automaton::take_token;
 pub use tokens::Met;
 pub use tokens::Token;
 pub use tokens::token_at;

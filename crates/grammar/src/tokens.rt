@@ -62,7 +62,7 @@ fn number(bytes: &[u8]) -> Token
 {
     match read_number(bytes) {
         Numeral::Number(n) => Token::Number(n),
-        Numeral::Unfit => Token::Misfit,
+        Numeral::NotNumber => Token::Misfit,
     }
 }
 

@@ -29,7 +29,7 @@ fn fits(code: &[u32], stack: &[u64], height: usize) -> bool
 }
 
 // The start of a kernel with so many lanes, into a room.
-pub fn start(code: &[u32], lanes: u32, stack: &mut [u64]) -> Stand
+pub fn start_warp(code: &[u32], lanes: u32, stack: &mut [u64]) -> Stand
     ensures { λ r. ⌜ StartsWarp (now (code .entry)) lanes (now (stack .entry)) (now (stack .exit)) r ⌝ }
 {
     if fits(code, stack, 0) {
@@ -108,7 +108,7 @@ fn move_on(
 }
 
 // One step of a warp, in place. What cannot be stepped stays as it is.
-pub fn step(
+pub fn step_warp(
     code: &[u32],
     expressions: &[u32],
     stand: Stand,

@@ -48,7 +48,7 @@ fn acting_of(code: &[u32], expressions: &[u32], i: usize, active: u32, cells: &[
 }
 
 // (if): the second list, a div token with the lanes that pass, the first list, a sync token.
-fn part(
+fn divide(
     code: &[u32],
     expressions: &[u32],
     i: usize,
@@ -141,7 +141,7 @@ pub(crate) fn obey_row(
         return Stand { height, lanes };
     }
     if kind == Kernel::IF {
-        return part(code, expressions, i, lanes, stack, height, cells);
+        return divide(code, expressions, i, lanes, stack, height, cells);
     }
     if kind == Kernel::WHILE {
         return enter_loop(code, expressions, i, lanes, stack, height, cells);

@@ -10,15 +10,15 @@ use lib.ListN.{length, drop}
 use borrow.Author.Tests.{eqb-true, eqb-false}
 use Rattle.spelling.specs.Bytes.{blanks, skip}
 use Rattle.spelling.specs.Tokens as T
-use Rattle.spelling.specs.Machine.{Outcome, outcome, further, moved, found}
+use Rattle.spelling.specs.Machine.{Outcome, outcome, further, foundAfter, found}
 use Rattle.spelling.proofs.Cuts.{tokens-end, tokens-next, starts-end, starts-next, end-place, next-place}
 use Rattle.grammar.specs.declared.tokens.Token.{Token}
 use Rattle.grammar.specs.declared.tokens.Met.the-variants as M
 use Rattle.grammar.specs.declared.automaton.State.{State}
-use Rattle.grammar.specs.declared.automaton.Moved.{Moved}
+use Rattle.grammar.specs.declared.automaton.TokenMove.{TokenMove}
 use Rattle.grammar.specs.Tokens.{tokenOf, sizeOf, tokenAt}
 use Rattle.grammar.specs.Automaton.{tokenMoves, mayEnd, move, nextMove}
-use Rattle.notation.specs.Reading.{judgedBy}
+use Rattle.notation.specs.Reading.{scannedBy}
 use Rattle.grammar.proofs.Lexes.{pos, most}
 
 -- which of the two stands after the blanks
@@ -49,12 +49,12 @@ module _ (text : List ℕ) where
     s = drop at text
 
     -- the end stands there
-    pub record Ends (from : ℕ) : Type 0 where
+    pub record EndsAt (from : ℕ) : Type 0 where
       pub tokens : tokensFrom at ≡ []
       pub starts : startsFrom at ≡ []
       pub place : from ≡ length text
 
-    pub met-end : (from : ℕ) → tokenAt text at ≡ M.End from → Ends from
+    pub met-end : (from : ℕ) → tokenAt text at ≡ M.End from → EndsAt from
     unfolding tokenAt
     met-end from e =
         let h = end-by (skip s) (at + blanks s) from (eqb (length (skip s)) 0) refl e in
@@ -81,16 +81,16 @@ module _ (text : List ℕ) where
         }
 
     -- what is found there
-    pub found-end : {from : ℕ} → Ends from → (st : State) (n : ℕ) → foundFrom at st n ≡ outcome [] [] (cond (mayEnd st) none (some 0))
+    pub found-end : {from : ℕ} → EndsAt from → (st : State) (n : ℕ) → foundFrom at st n ≡ outcome [] [] (cond (mayEnd st) none (some 0))
     unfolding found
     found-end E st n = rw (E .tokens)
 
-    pub found-token : {t : Token} {from nxt : ℕ} → Meets t from nxt → (st : State) (n : ℕ) (m : Moved) → tokenMoves st t ≡ m
-        → foundFrom at st n ≡ moved (move m) n (foundFrom nxt)
+    pub found-token : {t : Token} {from nxt : ℕ} → Meets t from nxt → (st : State) (n : ℕ) (m : TokenMove) → tokenMoves st t ≡ m
+        → foundFrom at st n ≡ foundAfter (move m) n (foundFrom nxt)
     unfolding found
     found-token X st n m e = rw (X .tokens, e)
 
 -- a judgement is not changed by a token before
-pub judged-further : (p : ℕ) (ps : List ℕ) (e m t : ℕ) (o : Option ℕ) → judgedBy (p ∷ ps) e m t (further o) ≡ judgedBy ps e m t o
+pub judged-further : (p : ℕ) (ps : List ℕ) (e m t : ℕ) (o : Option ℕ) → scannedBy (p ∷ ps) e m t (further o) ≡ scannedBy ps e m t o
 judged-further p ps e m t none = refl
 judged-further p ps e m t (some i) = refl

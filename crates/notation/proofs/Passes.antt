@@ -9,34 +9,34 @@ use native.Mathlib.Numerals.{add-one}
 use native.Mathlib.Omega.{arith}
 use lib.ListN.{length, set}
 use Rattle.tables.specs.Limits.{mostRows, mostThreads}
-use Rattle.spelling.specs.Machine.{Outcome, Row, outcome, moved, flat}
+use Rattle.spelling.specs.Machine.{Outcome, Row, outcome, foundAfter, flat}
 use Rattle.spelling.specs.Over.{over}
 use Rattle.spelling.proofs.Filling.{Filling, filling-none, filling-left, filling-count, filling-room, filling-long, filling-done, filling-more, filling-three}
 use Rattle.grammar.specs.declared.tokens.Token.{Token}
 use Rattle.grammar.specs.declared.tokens.Met.the-variants as M
 use Rattle.grammar.specs.declared.automaton.State.{State}
-use Rattle.grammar.specs.declared.automaton.State.the-variants.{Word, Close, Part}
-use Rattle.grammar.specs.declared.automaton.Moved.{Moved}
-use Rattle.grammar.specs.declared.automaton.Moved.the-variants as Do
-use Rattle.notation.specs.declared.scan.Judged.{Judged}
-use Rattle.notation.specs.declared.scan.Judged.the-variants.{Refused, Passed}
+use Rattle.grammar.specs.declared.automaton.State.the-variants.{Word, Close, Parting}
+use Rattle.grammar.specs.declared.automaton.TokenMove.{TokenMove}
+use Rattle.grammar.specs.declared.automaton.TokenMove.the-variants as Do
+use Rattle.notation.specs.declared.scan.Scanned.{Scanned}
+use Rattle.notation.specs.declared.scan.Scanned.the-variants.{Refused, Passed}
 use Rattle.grammar.specs.Tokens.{tokenAt}
 use Rattle.grammar.specs.Automaton.{tokenMoves, mayEnd, move}
-use Rattle.notation.specs.Reading.{readOf, rowNumbers, threadLengths, judgedBy, judgedOf, Rooms}
+use Rattle.notation.specs.Reading.{readOf, rowNumbers, threadLengths, scannedBy, scannedOf, Rooms}
 use Rattle.notation.proofs.Along.{startsFrom, foundFrom, met-end, met-token, found-end, found-token, judged-further}
 
 -- the judgement of m commands and t threads before the places, and of what is found at them
-abbrev judgement : List ℕ → ℕ → ℕ → ℕ → Outcome → Judged
-judgement places end m t o = judgedBy places end (m + length (o .rows)) (t + length (o .lengths)) (o .stop)
+abbrev judgement : List ℕ → ℕ → ℕ → ℕ → Outcome → Scanned
+judgement places end m t o = scannedBy places end (m + length (o .rows)) (t + length (o .lengths)) (o .stop)
 
 pub record Judging (text : List ℕ) (at : ℕ) (s : State) (m t : ℕ) : Type 0 where
   pub inside : at ≤ length text
   pub few : (m ≤ at) × (t ≤ at)
   pub n : ℕ
-  pub same : judgement (startsFrom text at) (length text) m t (foundFrom text at s n) ≡ judgedOf text
+  pub same : judgement (startsFrom text at) (length text) m t (foundFrom text at s n) ≡ scannedOf text
 
 pub judging-start : (text : List ℕ) → Judging text 0 Word 0 0
-unfolding judgedOf
+unfolding scannedOf
 judging-start text =
     let p : 0 + length (readOf text .rows) ≡ length (readOf text .rows) = omega arith in
     let q : 0 + length (readOf text .lengths) ≡ length (readOf text .lengths) = omega arith in
@@ -44,23 +44,23 @@ judging-start text =
 
 module _ {text : List ℕ} {at : ℕ} {s : State} {m t : ℕ} (J : Judging text at s m t) where
   module _ {from : ℕ} (e : tokenAt text at ≡ M.End from) where
-    ends : judgement [] (length text) m t (outcome [] [] (cond (mayEnd s) none (some 0))) ≡ judgedOf text
+    ends : judgement [] (length text) m t (outcome [] [] (cond (mayEnd s) none (some 0))) ≡ scannedOf text
     ends =
         let E = met-end text at (J .inside) from e in
         rw (E .starts, found-end text at (J .inside) E s (J .n)) at (J .same)
 
-    pub judging-passed : mayEnd s ≡ true → Passed m t ≡ judgedOf text
+    pub judging-passed : mayEnd s ≡ true → Passed m t ≡ scannedOf text
     judging-passed q =
         let x : m + 0 ≡ m = omega arith in
         let y : t + 0 ≡ t = omega arith in
         rw (q, x, y) at ends
 
-    pub judging-short : mayEnd s ≡ false → Refused from ≡ judgedOf text
+    pub judging-short : mayEnd s ≡ false → Refused from ≡ scannedOf text
     judging-short q = ap Refused (met-end text at (J .inside) from e .place) ∙ rw q at ends
 
   module _ {tok : Token} {from nxt : ℕ} (e : tokenAt text at ≡ M.Token tok from nxt) where
-    goes : (v : Moved) → tokenMoves s tok ≡ v
-        → judgement (from ∷ startsFrom text nxt) (length text) m t (moved (move v) (J .n) (foundFrom text nxt)) ≡ judgedOf text
+    goes : (v : TokenMove) → tokenMoves s tok ≡ v
+        → judgement (from ∷ startsFrom text nxt) (length text) m t (foundAfter (move v) (J .n) (foundFrom text nxt)) ≡ scannedOf text
     goes v q =
         let X = met-token text at (J .inside) tok from nxt e in
         rw (X .starts, found-token text at (J .inside) X s (J .n) v q) at (J .same)
@@ -68,7 +68,7 @@ module _ {text : List ℕ} {at : ℕ} {s : State} {m t : ℕ} (J : Judging text 
     pub judging-further : (at < nxt) × (nxt ≤ length text) × (at < length text)
     judging-further = met-token text at (J .inside) tok from nxt e .further
 
-    pub judging-refused : tokenMoves s tok ≡ Do.Refuse → Refused from ≡ judgedOf text
+    pub judging-refused : tokenMoves s tok ≡ Do.Refuse → Refused from ≡ scannedOf text
     judging-refused q = goes Do.Refuse q
 
     pub judging-on : {u : State} → tokenMoves s tok ≡ Do.On u → Judging text nxt u m t
@@ -93,10 +93,10 @@ module _ {text : List ℕ} {at : ℕ} {s : State} {m t : ℕ} (J : Judging text 
           same = rw z (sym (judged-further from (startsFrom text nxt) (length text) _ _ (o .stop)) ∙ goes (Do.Row k a c) q);
         }
 
-    pub judging-thread : tokenMoves s tok ≡ Do.Thread → Judging text nxt Part m (t + 1)
+    pub judging-thread : tokenMoves s tok ≡ Do.Thread → Judging text nxt Parting m (t + 1)
     judging-thread q =
         let h = judging-further in
-        let o = foundFrom text nxt Part 0 in
+        let o = foundFrom text nxt Parting 0 in
         let z : t + 1 + length (o .lengths) ≡ t + suc (length (o .lengths)) = omega arith in
         record {
           inside = h .1;
@@ -138,7 +138,7 @@ module _ {text was was′ now now′ : List ℕ} {at : ℕ} {s : State} {i j n :
       done (ap (λ (o : Outcome). o .rows) q) (ap (λ (o : Outcome). o .lengths) q)
 
   module _ {tok : Token} {from nxt : ℕ} (e : tokenAt text at ≡ M.Token tok from nxt) where
-    goes-to : (v : Moved) → tokenMoves s tok ≡ v → foundFrom text at s n ≡ moved (move v) n (foundFrom text nxt)
+    goes-to : (v : TokenMove) → tokenMoves s tok ≡ v → foundFrom text at s n ≡ foundAfter (move v) n (foundFrom text nxt)
     goes-to v q = found-token text at (W .inside) (met-token text at (W .inside) tok from nxt e) s n v q
 
     pub writing-further : (at < nxt) × (nxt ≤ length text) × (at < length text)
@@ -182,7 +182,7 @@ module _ {text was was′ now now′ : List ℕ} {at : ℕ} {s : State} {i j n :
           })
 
     module _ (q : tokenMoves s tok ≡ Do.Thread) where
-      thread-left : Filling (threadLengths text) (n ∷ foundFrom text nxt Part 0 .lengths) was′ now′ j
+      thread-left : Filling (threadLengths text) (n ∷ foundFrom text nxt Parting 0 .lengths) was′ now′ j
       thread-left = filling-left _ (ap (λ (o : Outcome). o .lengths) (goes-to Do.Thread q)) (W .lens)
 
       pub writing-place : (j < length now′) × (j < mostThreads)
@@ -190,7 +190,7 @@ module _ {text was was′ now now′ : List ℕ} {at : ℕ} {s : State} {i j n :
           let f : j + 1 ≤ length (threadLengths text) = omega (arith, filling-count thread-left) in
           (omega (arith, filling-room thread-left, filling-long thread-left), omega (arith, f, W .few .2))
 
-      pub writing-thread : Writing text was was′ now (set now′ j n) nxt Part i (j + 1) 0
+      pub writing-thread : Writing text was was′ now (set now′ j n) nxt Parting i (j + 1) 0
       writing-thread =
           record {
             inside = writing-further .1;

@@ -17,14 +17,14 @@ use Rattle.spelling.proofs.Spelt.{spelt-tokens}
 use Rattle.spelling.proofs.Refusals as R
 use Rattle.grammar.specs.declared.tokens.Token.{Token}
 use Rattle.grammar.specs.declared.automaton.State.the-variants.{Word}
-use Rattle.notation.specs.declared.scan.Judged.{Judged}
-use Rattle.notation.specs.declared.scan.Judged.the-variants.{Refused, Passed}
+use Rattle.notation.specs.declared.scan.Scanned.{Scanned}
+use Rattle.notation.specs.declared.scan.Scanned.the-variants.{Refused, Passed}
 use Rattle.notation.specs.declared.reading.Reading.{Reading}
 use Rattle.notation.specs.declared.reading.Reading.the-variants.{Unfit, Over, Accepted}
 use Rattle.grammar.specs.Grammar as G
 use Rattle.grammar.specs.Grammar.{Listing, Denotes, Spells, rowOf, allCommands, threads, listingRows, listingLengths}
 use Rattle.grammar.specs.Automaton.{nextMove, mayEnd}
-use Rattle.notation.specs.Reading.{mostBytes, readOf, rowNumbers, threadLengths, judgedBy, judgedOf, answered, tooMany, answerOf, reading, written, Rooms}
+use Rattle.notation.specs.Reading.{mostBytes, readOf, rowNumbers, threadLengths, scannedBy, scannedOf, answered, tooMany, answerOf, reading, written, Rooms}
 use Rattle.grammar.specs.Tokens.{starts, sizeOf}
 use Rattle.notation.specs.Promise.{Within, GivesTables, RefusedAt, ByGrammar, Read}
 use Rattle.grammar.proofs.Lexes.{pos, most}
@@ -42,28 +42,28 @@ many-rows x = length-map (allCommands (threads x)) rowOf
 many-lengths : (x : Listing) → length (listingLengths x) ≡ length (threads x)
 many-lengths x = length-map (threads x) (λ (t : List G.Command). length t)
 
-denoted-judged : (text : List ℕ) (x : Listing) → Denotes text x → judgedOf text ≡ Passed (length (allCommands (threads x))) (length (threads x))
-unfolding judgedOf
+denoted-judged : (text : List ℕ) (x : Listing) → Denotes text x → scannedOf text ≡ Passed (length (allCommands (threads x))) (length (threads x))
+unfolding scannedOf
 denoted-judged text x d = rw (denoted-found text x d, many-rows x, many-lengths x)
 
 -- what a judgement says of a text
-abbrev Says : List ℕ → Judged → Type 0
+abbrev Says : List ℕ → Scanned → Type 0
 Says text (Refused p) = RefusedAt text p
 Says text (Passed m t) = (x : Listing) × Denotes text x
 
-says : (text : List ℕ) → Says text (judgedOf text)
-unfolding judgedOf
+says : (text : List ℕ) → Says text (scannedOf text)
+unfolding scannedOf
 says text = by-stop (readOf text .stop) refl
   where
-    by-stop : (o : Option ℕ) → readOf text .stop ≡ o → Says text (judgedBy (starts text) (length text) (length (readOf text .rows)) (length (readOf text .lengths)) o)
+    by-stop : (o : Option ℕ) → readOf text .stop ≡ o → Says text (scannedBy (starts text) (length text) (length (readOf text .rows)) (length (readOf text .lengths)) o)
     by-stop none e = let (w, s) = R.passes lexer grammar text e in (w .0, subst (λ (ts : List Token). Spells text ts) (w .1) s)
     by-stop (some i) e = R.refuses lexer grammar text i e
 
 -- a text that is refused denotes nothing
-refused-judged : (text : List ℕ) (p : ℕ) → RefusedAt text p → judgedOf text ≡ Refused p
-refused-judged text p h = by-judged (judgedOf text) (says text)
+refused-judged : (text : List ℕ) (p : ℕ) → RefusedAt text p → scannedOf text ≡ Refused p
+refused-judged text p h = by-judged (scannedOf text) (says text)
   where
-    by-judged : (j : Judged) → Says text j → j ≡ Refused p
+    by-judged : (j : Scanned) → Says text j → j ≡ Refused p
     by-judged (Refused q) k = ap Refused (R.refused-one k h)
     by-judged (Passed m t) (x, d) = absurd (R.refused-not h (x, spelt-tokens lexer d))
 
@@ -83,11 +83,11 @@ answered-one (Accepted m t) (Accepted n u) e =
     cc
 
 -- the reading that a judgement gives, within the limits or not
-abbrev limited : Judged → ℕ → ℕ → Reading
+abbrev limited : Scanned → ℕ → ℕ → Reading
 limited (Refused p) c l = Unfit p
 limited (Passed m t) c l = cond (tooMany m t c l) Over (Accepted m t)
 
-answered-limited : (j : Judged) (c l : ℕ) → answered (limited j c l) ≡ answerOf j c l
+answered-limited : (j : Scanned) (c l : ℕ) → answered (limited j c l) ≡ answerOf j c l
 answered-limited (Refused p) c l = refl
 answered-limited (Passed m t) c l = by-test (tooMany m t c l)
   where
@@ -123,15 +123,15 @@ module _ (text : List ℕ) (c l : ℕ) where
 
   -- what the text is read as
   abbrev pub reads : Reading
-  reads = cond long Over (limited (judgedOf text) c l)
+  reads = cond long Over (limited (scannedOf text) c l)
 
   pub answered-reads : answered reads ≡ reading text c l
   unfolding reading
   answered-reads = by-test long
     where
-      by-test : (b : Bool) → answered (cond b Over (limited (judgedOf text) c l)) ≡ cond b (answered Over) (answerOf (judgedOf text) c l)
+      by-test : (b : Bool) → answered (cond b Over (limited (scannedOf text) c l)) ≡ cond b (answered Over) (answerOf (scannedOf text) c l)
       by-test true = refl
-      by-test false = answered-limited (judgedOf text) c l
+      by-test false = answered-limited (scannedOf text) c l
 
   -- an answer that meets the equation is this one
   answer-is : (r : Reading) → answered r ≡ reading text c l → r ≡ reads
@@ -168,15 +168,15 @@ module _ (text : List ℕ) (c l : ℕ) where
   means-denoted x d h true e = inr (x, d, λ w. true≢false (sym e ∙ few-enough _ _ c l (within-few text c l x w)))
   means-denoted x d h false e = (x, d, within text c l x h (few _ _ c l e))
 
-  means-limited : (j : Judged) → judgedOf text ≡ j → Says text j → length text ≤ mostBytes → Stands text c l (limited j c l)
+  means-limited : (j : Scanned) → scannedOf text ≡ j → Says text j → length text ≤ mostBytes → Stands text c l (limited j c l)
   means-limited (Refused p) e k h = (h, refused-inside text p k, k)
   means-limited (Passed m t) e (x, d) h =
       let q : Passed (length (allCommands (threads x))) (length (threads x)) ≡ Passed m t = sym (denoted-judged text x d) ∙ e in
-      subst (λ (j : Judged). Stands text c l (limited j c l)) q (means-denoted x d h (tooMany (length (allCommands (threads x))) (length (threads x)) c l) refl)
+      subst (λ (j : Scanned). Stands text c l (limited j c l)) q (means-denoted x d h (tooMany (length (allCommands (threads x))) (length (threads x)) c l) refl)
 
-  means : (b : Bool) → ltb mostBytes (length text) ≡ b → Stands text c l (cond b Over (limited (judgedOf text) c l))
+  means : (b : Bool) → ltb mostBytes (length text) ≡ b → Stands text c l (cond b Over (limited (scannedOf text) c l))
   means true e = inl (ltb-true mostBytes (length text) e)
-  means false e = means-limited (judgedOf text) refl (says text) (ltb-false mostBytes (length text) e)
+  means false e = means-limited (scannedOf text) refl (says text) (ltb-false mostBytes (length text) e)
 
   pub reads-means : Stands text c l (reads text c l)
   reads-means = means (ltb mostBytes (length text)) refl
@@ -197,7 +197,7 @@ module _ (text commands lengths commands′ lengths′ : List ℕ) (r : Reading)
   meaning : Stands text c l r
   meaning = subst (Stands text c l) (sym (answer-is text c l r e)) (reads-means text c l)
 
-  short : length text ≤ mostBytes → r ≡ limited (judgedOf text) c l
+  short : length text ≤ mostBytes → r ≡ limited (scannedOf text) c l
   short h = answer-is text c l r e ∙ rw (le-ltb mostBytes (length text) h)
 
   module _ (rows : commands′ ≡ written r (rowNumbers text) commands) (lens : lengths′ ≡ written r (threadLengths text) lengths) where
@@ -239,14 +239,14 @@ module _ (text : List ℕ) (c l : ℕ) where
   reading-long h = rw (lt-ltb mostBytes (length text) h)
 
   module _ (h : length text ≤ mostBytes) where
-    judged : (j : Judged) → judgedOf text ≡ j → answerOf j c l ≡ reading text c l
+    judged : (j : Scanned) → scannedOf text ≡ j → answerOf j c l ≡ reading text c l
     unfolding reading
     judged j e = rw (le-ltb mostBytes (length text) h, e)
 
-    pub reading-unfit : (p : ℕ) → judgedOf text ≡ Refused p → answered (Unfit p) ≡ reading text c l
+    pub reading-unfit : (p : ℕ) → scannedOf text ≡ Refused p → answered (Unfit p) ≡ reading text c l
     reading-unfit p e = judged (Refused p) e
 
-    module _ (m t : ℕ) (e : judgedOf text ≡ Passed m t) where
+    module _ (m t : ℕ) (e : scannedOf text ≡ Passed m t) where
       limits : (b : Bool) → tooMany m t c l ≡ b → cond b (answered Over) (answered (Accepted m t)) ≡ reading text c l
       limits b q = ap (λ (z : Bool). cond z (answered Over) (answered (Accepted m t))) (sym q) ∙ judged (Passed m t) e
 
@@ -257,16 +257,16 @@ module _ (text : List ℕ) (c l : ℕ) where
       reading-accepted q = limits false q
 
 -- and what the writing pass asks
-judged-many : (text : List ℕ) (m t : ℕ) → judgedOf text ≡ Passed m t → (length (readOf text .rows) ≡ m) × (length (threadLengths text) ≡ t)
-unfolding judgedOf
+judged-many : (text : List ℕ) (m t : ℕ) → scannedOf text ≡ Passed m t → (length (readOf text .rows) ≡ m) × (length (threadLengths text) ≡ t)
+unfolding scannedOf
 judged-many text m t e = by-stop (readOf text .stop) e
   where
-    by-stop : (o : Option ℕ) → judgedBy (starts text) (length text) (length (readOf text .rows)) (length (readOf text .lengths)) o ≡ Passed m t
+    by-stop : (o : Option ℕ) → scannedBy (starts text) (length text) (length (readOf text .rows)) (length (readOf text .lengths)) o ≡ Passed m t
         → (length (readOf text .rows) ≡ m) × (length (threadLengths text) ≡ t)
     by-stop none q = (cc, cc)
     by-stop (some i) q = absurd (true≢false cc)
 
-pub judged-rooms : (text commands lengths : List ℕ) (m t : ℕ) → judgedOf text ≡ Passed m t → tooMany m t (length commands) (length lengths) ≡ false → Rooms text commands lengths
+pub judged-rooms : (text commands lengths : List ℕ) (m t : ℕ) → scannedOf text ≡ Passed m t → tooMany m t (length commands) (length lengths) ≡ false → Rooms text commands lengths
 judged-rooms text commands lengths m t e q =
     let f = few m t (length commands) (length lengths) q in
     let n = judged-many text m t e in

@@ -11,8 +11,8 @@ use Rattle.verdicts.specs.declared.Told.{Told}
 use Rattle.spelling.specs.Machine.{Outcome, found, flat}
 use Rattle.spelling.specs.Over.{over}
 use Rattle.grammar.specs.declared.automaton.State.the-variants.{Word}
-use Rattle.notation.specs.declared.scan.Judged.{Judged}
-use Rattle.notation.specs.declared.scan.Judged.the-variants.{Refused, Passed}
+use Rattle.notation.specs.declared.scan.Scanned.{Scanned}
+use Rattle.notation.specs.declared.scan.Scanned.the-variants.{Refused, Passed}
 use Rattle.notation.specs.declared.reading.Reading.{Reading}
 use Rattle.notation.specs.declared.reading.Reading.the-variants.{Unfit, Over, Accepted}
 use Rattle.grammar.specs.Tokens.{tokens, starts}
@@ -33,13 +33,13 @@ abbrev pub threadLengths : List ℕ → List ℕ
 threadLengths text = readOf text .lengths
 
 -- 12 where a token doesn't fit, or at the text's length; else how many commands and threads were found
-abbrev pub judgedBy : List ℕ → ℕ → ℕ → ℕ → Option ℕ → Judged
-judgedBy places end m t none = Passed m t
-judgedBy places end m t (some i) = Refused (getD places i end)
+abbrev pub scannedBy : List ℕ → ℕ → ℕ → ℕ → Option ℕ → Scanned
+scannedBy places end m t none = Passed m t
+scannedBy places end m t (some i) = Refused (getD places i end)
 
-unfoldable pub judgedOf : List ℕ → Judged
-judgedOf text =
-    judgedBy (starts text) (length text) (length (readOf text .rows)) (length (readOf text .lengths)) (readOf text .stop)
+unfoldable pub scannedOf : List ℕ → Scanned
+scannedOf text =
+    scannedBy (starts text) (length text) (length (readOf text .rows)) (length (readOf text .lengths)) (readOf text .stop)
 
 -- document 01's numbers for an answer: a refusal's number and place, else 0 and the numbers of commands and threads
 pub record Answer : Type 0 where
@@ -59,13 +59,13 @@ answered (Accepted m t) = answer (tell 0 0 0) m t
 unfoldable pub tooMany : ℕ → ℕ → ℕ → ℕ → Bool
 tooMany m t c l = ltb mostRows m || ltb mostThreads t || ltb (c / 3) m || ltb l t
 
-abbrev pub answerOf : Judged → ℕ → ℕ → Answer
+abbrev pub answerOf : Scanned → ℕ → ℕ → Answer
 answerOf (Refused p) c l = answer (tell 12 p 0) 0 0
 answerOf (Passed m t) c l = cond (tooMany m t c l) (answer (tell 13 0 0) 0 0) (answer (tell 0 0 0) m t)
 
 -- 13 for too many bytes is tested first; for all else only after the whole text has passed 12
 unfoldable pub reading : List ℕ → ℕ → ℕ → Answer
-reading text c l = cond (ltb mostBytes (length text)) (answer (tell 13 0 0) 0 0) (answerOf (judgedOf text) c l)
+reading text c l = cond (ltb mostBytes (length text)) (answer (tell 13 0 0) 0 0) (answerOf (scannedOf text) c l)
 
 -- a table is written in its first places where the reading is accepted, and untouched otherwise
 abbrev pub written : Reading → List ℕ → List ℕ → List ℕ

@@ -4,8 +4,8 @@ ghost use lib.ListN.{length};
 ghost use Rattle.reader.specs.Places.{ahead};
 ghost use Rattle.notation.specs.Reading.{answered, tooMany, restAt, restOf};
 ghost use Rattle.notation.specs.Promise.{Read};
-use crate::scan::Judged;
-use crate::scan::judge;
+use crate::scan::Scanned;
+use crate::scan::scan;
 use crate::scan::write;
 use reader::rest_from;
 use tables::Table;
@@ -27,7 +27,7 @@ pub enum Reading {
 
 impl Reading {
     // A refusal's number and place; 0 where the text was accepted.
-    pub fn number(self) -> Told
+    pub fn told(self) -> Told
         ensures { λ r. ⌜ r ≡ answered self .told ⌝ }
     {
         match self {
@@ -64,9 +64,9 @@ pub fn read(text: &[u8], commands: &mut [u32], lengths: &mut [u32]) -> Reading
     if Text::BYTES < text.len() {
         return Reading::Over;
     }
-    match judge(text) {
-        Judged::Refused(place) => Reading::Unfit(place),
-        Judged::Passed(m, t) => {
+    match scan(text) {
+        Scanned::Refused(place) => Reading::Unfit(place),
+        Scanned::Passed(m, t) => {
             if too_many(m, t, commands.len(), lengths.len()) {
                 return Reading::Over;
             }

@@ -3,23 +3,23 @@ ghost use mathlib.Core.Path.{_≡_};
 ghost use Prim.Native.Nat.{_+_, _≤_};
 ghost use lib.ListN.{length, set};
 ghost use Rattle.spelling.specs.Over.{over};
-ghost use Rattle.notation.specs.Reading.{judgedOf, rowNumbers, threadLengths, Rooms};
+ghost use Rattle.notation.specs.Reading.{scannedOf, rowNumbers, threadLengths, Rooms};
 use grammar::Met;
-use grammar::Moved;
 use grammar::State;
-use grammar::ends;
-use grammar::step;
+use grammar::TokenMove;
+use grammar::may_end;
+use grammar::take_token;
 use reader::token_from;
 
 // Refused at a place, or of the notation, with so many commands and threads.
-pub(crate) enum Judged {
+pub(crate) enum Scanned {
     Refused(usize),
     Passed(usize, usize),
 }
 
 // The pass that judges a text. It is lent no table.
-pub(crate) fn judge(text: &[u8]) -> Judged
-    ensures { λ r. ⌜ r ≡ judgedOf (now (text .entry)) ⌝ }
+pub(crate) fn scan(text: &[u8]) -> Scanned
+    ensures { λ r. ⌜ r ≡ scannedOf (now (text .entry)) ⌝ }
 {
     let mut at = 0;
     let mut state = State::Word;
@@ -28,26 +28,26 @@ pub(crate) fn judge(text: &[u8]) -> Judged
     loop {
         match token_from(text, at) {
             Met::End(end) => {
-                if ends(state) {
-                    return Judged::Passed(commands, threads);
+                if may_end(state) {
+                    return Scanned::Passed(commands, threads);
                 }
-                return Judged::Refused(end);
+                return Scanned::Refused(end);
             }
             Met::Token(token, from, next) => {
-                match step(state, token) {
-                    Moved::Refuse => {
-                        return Judged::Refused(from);
+                match take_token(state, token) {
+                    TokenMove::Refuse => {
+                        return Scanned::Refused(from);
                     }
-                    Moved::On(expected) => {
+                    TokenMove::On(expected) => {
                         state = expected;
                     }
-                    Moved::Row(_, _, _) => {
+                    TokenMove::Row(_, _, _) => {
                         commands += 1;
                         state = State::Close;
                     }
-                    Moved::Thread => {
+                    TokenMove::Thread => {
                         threads += 1;
-                        state = State::Part;
+                        state = State::Parting;
                     }
                 }
                 at = next;
@@ -80,24 +80,24 @@ pub(crate) fn write(text: &[u8], commands: &mut [u32], lengths: &mut [u32])
         let Met::Token(token, _, next) = token_from(text, at) else {
             return;
         };
-        match step(state, token) {
-            Moved::Refuse => {
+        match take_token(state, token) {
+            TokenMove::Refuse => {
                 return;
             }
-            Moved::On(expected) => {
+            TokenMove::On(expected) => {
                 state = expected;
             }
-            Moved::Row(kind, name, count) => {
+            TokenMove::Row(kind, name, count) => {
                 put_row(commands, numbers, kind, name, count);
                 numbers += 3;
                 length += 1;
                 state = State::Close;
             }
-            Moved::Thread => {
+            TokenMove::Thread => {
                 lengths[threads] = length;
                 threads += 1;
                 length = 0;
-                state = State::Part;
+                state = State::Parting;
             }
         }
         at = next;

@@ -21,7 +21,7 @@ use Rattle.rooms.proofs.Rooms.{first-either, none-either}
 use Rattle.replay.specs.Writer.{writerRooms, unwritten}
 use Rattle.replay.specs.Doors.{WritesSchedule}
 use Rattle.replay.specs.declared.writer.Written.{Written}
-use Rattle.verdicts.proofs.InOrder.{or-either}
+use Rattle.verdicts.proofs.FirstTold.{or-either}
 use Rattle.replay.proofs.Refusals.{unwritten-keeps}
 use Rattle.replay.proofs.Places.{Placed, placed, checked-placed, schedule-few}
 use Rattle.review.specs.Agreement.{number}

@@ -16,8 +16,8 @@ use Rattle.evidence.specs.declared.door.Evidence.{Evidence}
 use Rattle.evidence.specs.Doors.{Evidenced}
 use Rattle.runs.specs.declared.Course.{Course}
 use Rattle.runs.specs.Run.{RunsKernel}
-use Rattle.probe.specs.declared.counts.Counts.{Counts}
-use Rattle.probe.specs.Numbers.{answerRoom, largest, toldNumbers, pairNumbers, countsOf}
+use Rattle.probe.specs.declared.sizes.Sizes.{Sizes}
+use Rattle.probe.specs.Numbers.{answerRoom, largest, toldNumbers, pairNumbers, sizesOf}
 use Rattle.probe.specs.Promise.{ProbesReview, ProbesSchedule, ProbesRead, ProbesWarp}
 use Rattle.probe.proofs.Fitting.{rest-in}
 use Rattle.probe.proofs.Putting.{told-and-more, told-and-one, told-and-two}
@@ -57,8 +57,8 @@ module _ (text commands lengths answer : List ℕ) where
   pub read-short : length answer < answerRoom → ProbesRead text commands lengths answer commands lengths answer 14
   read-short h = record { refuses = λ _. (refl, refl, refl, refl); read = λ l. absurd (omega arith) }
 
-  pub read-told : {r : Reading} {commands′ lengths′ answer′ rest : List ℕ} {t : Told} {f : Counts} {n : ℕ} → answerRoom ≤ length answer
-      → Read text commands lengths commands′ lengths′ r → t ≡ answered r .told → f ≡ countsOf r
+  pub read-told : {r : Reading} {commands′ lengths′ answer′ rest : List ℕ} {t : Told} {f : Sizes} {n : ℕ} → answerRoom ≤ length answer
+      → Read text commands lengths commands′ lengths′ r → t ≡ answered r .told → f ≡ sizesOf r
       → answer′ ≡ over (toldNumbers t (f .commands) (f .threads)) answer → rest ≡ restOf r text → n ≡ min (length text - length rest) largest
       → ProbesRead text commands lengths answer commands′ lengths′ (set answer′ 4 n) (t .number)
   unfolding answerRoom

@@ -12,7 +12,7 @@ use Rattle.sheet.specs.Sheet.{mostKept, pair}
 use Rattle.sheet.specs.declared.Pair.{Pair}
 use Rattle.evidence.specs.declared.door.Evidence.{Evidence}
 use Rattle.runs.specs.declared.Course.{Course}
-use Rattle.probe.specs.declared.counts.Counts.{Counts}
+use Rattle.probe.specs.declared.sizes.Sizes.{Sizes}
 
 -- an answer room has at least so many numbers
 unfoldable pub answerRoom : ℕ
@@ -40,8 +40,8 @@ abbrev pub writtenNumbers : Written → List ℕ
 writtenNumbers r = toldNumbers (numbered (r .verdict)) (r .length) 0
 
 -- how many commands and threads a reading found
-abbrev pub countsOf : Reading → Counts
-countsOf r = record { commands = answered r .commands; threads = answered r .threads }
+abbrev pub sizesOf : Reading → Sizes
+sizesOf r = record { commands = answered r .commands; threads = answered r .threads }
 
 -- Those of a reading of n bytes: then commands, threads, and where the rest begins. In a text of 4 GiB or more, which is refused by 13, that is told as the largest number.
 abbrev pub readingNumbers : Reading → ℕ → List ℕ

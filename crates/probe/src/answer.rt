@@ -18,7 +18,7 @@ impl Answer {
 }
 
 // A number as an answer room holds it. Only the offset in a text of 4 GiB or more, which is refused by 13, is larger: it is told as the largest number.
-pub(crate) fn cut(n: usize) -> u32
+pub(crate) fn capped(n: usize) -> u32
     ensures { λ r. ⌜ r ≡ min n largest ⌝ }
 {
     if n < Answer::LARGEST {

@@ -2,10 +2,10 @@
 // and a length to C. `answer` is a room of at least 36 numbers; a shorter one is answered 14, before all else, and nothing is touched.
 ghost use Rattle.probe.specs.Promise.{ProbesReview, ProbesSchedule, ProbesRead, ProbesClose, ProbesWarp};
 use crate::answer::Answer;
-use crate::answer::cut;
+use crate::answer::capped;
 use crate::answer::put_sheet;
 use crate::answer::put_told;
-use crate::counts::counts_of;
+use crate::sizes::sizes_of;
 use closing::close;
 use evidence::review_evidence;
 use notation::read;
@@ -15,7 +15,7 @@ use runs::run_kernel;
 use verdicts::Told;
 
 mod answer; // numbers into the answer room
-mod counts; // how many commands and threads a reading found
+mod sizes; // how many commands and threads a reading found
 
 // The verdict's number. `answer` gets its two places, the total, how many numbers of evidence were written, and both numbers of each of the sheet's sixteen pairs.
 #[no_mangle]
@@ -39,7 +39,7 @@ pub extern "C" fn probe_review(
     let found = shown.finding;
     let verdict = found.verdict;
     let sheet = found.sheet;
-    let told = verdict.number();
+    let told = verdict.told();
     put_told(answer, told, sheet.total, shown.entries);
     put_sheet(answer, sheet);
     told.number
@@ -61,7 +61,7 @@ pub extern "C" fn probe_schedule(
     }
     let written = write_schedule(commands, lengths, room);
     let verdict = written.verdict;
-    let told = verdict.number();
+    let told = verdict.told();
     put_told(answer, told, written.length, 0);
     told.number
 }
@@ -81,10 +81,10 @@ pub extern "C" fn probe_read(
         return 14;
     }
     let reading = read(text, commands, lengths);
-    let told = reading.number();
-    let found = counts_of(reading);
+    let told = reading.told();
+    let found = sizes_of(reading);
     put_told(answer, told, found.commands, found.threads);
-    answer[4] = cut(text.len() - rest(text, reading).len());
+    answer[4] = capped(text.len() - rest(text, reading).len());
     told.number
 }
 

@@ -11,7 +11,7 @@ use Rattle.relation.proofs.Chains.{reach-map}
 use Rattle.relation.proofs.Truth.{isnt}
 use Rattle.schedules.specs.Machine.{Program}
 use Rattle.schedules.specs.Threads as threads
-use Rattle.schedules.specs.Order.{along, Reaches, Succeeds, Waits, Reuse}
+use Rattle.schedules.specs.HappensBefore.{along, Reaches, Succeeds, Waits, Reuse}
 use Rattle.schedules.proofs.Table.{edge-alike}
 use Rattle.programs.specs.Program.{program}
 use Rattle.programs.proofs.Programs as programs

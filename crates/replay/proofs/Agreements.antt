@@ -43,14 +43,14 @@ module _ {table lengths : List ℕ} (K : Keeps table lengths) where
     precedes-is : (σ : List ℕ) → Complete table lengths σ → Precedes table lengths x y σ ↔ claims.Precedes P H x y (reverse σ)
     precedes-is σ c = let T = clean-through K σ (A .clean σ c .through) in (precedes-to K σ T x y lx ly, precedes-from K σ T x y lx ly)
 
-    pub order-from : claims.SameOrder P H x y → InOneOrder table lengths x y
+    pub order-from : claims.InOneOrder P H x y → InOneOrder table lengths x y
     order-from S σ τ cσ cτ =
         let (a, b) = precedes-is σ cσ in
         let (c, d) = precedes-is τ cτ in
         let (to, from) = S (reverse σ) (reverse τ) (complete-to K cσ) (complete-to K cτ) in
         (λ p. d (to (a p)), λ p. b (from (c p)))
 
-    pub order-to : InOneOrder table lengths x y → claims.SameOrder P H x y
+    pub order-to : InOneOrder table lengths x y → claims.InOneOrder P H x y
     order-to S σ τ cσ cτ =
         let (a, b) = precedes-is (reverse σ) (complete-from K cσ) in
         let (c, d) = precedes-is (reverse τ) (complete-from K cτ) in

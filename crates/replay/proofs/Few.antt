@@ -38,7 +38,7 @@ module _ {commands lengths : List ℕ} (K : Keeps commands lengths) where
       tally-one (rows commands) (s .ran) (next P s c .ran) c (A .low) (A .fresh) (ran-same P s c c refl) (λ x n. ran-other P s c x (λ e. n (sym e)))
 
   each-runs : (υ : List ℕ) → Legal P H υ → ranIn (after P H υ) ≡ length υ
-  unfolding Rattle.schedules.specs.Threads.commands state
+  unfolding Rattle.schedules.specs.Threads.logOf state
   each-runs [] L = tally-none (rows commands) _ (λ i l e. clashing e refl)
   each-runs (t ∷ υ) L = one-more υ (L .0) (L .1) ∙ ap suc (each-runs υ (L .0))
 
@@ -54,13 +54,13 @@ module _ {commands lengths : List ℕ} (K : Keeps commands lengths) where
 
   -- no more generations than steps
   pub done-few : (υ : List ℕ) (b : ℕ) → after P H υ .done b ≤ length υ
-  unfolding Rattle.schedules.specs.Threads.commands state
+  unfolding Rattle.schedules.specs.Threads.logOf state
   done-few [] b = omega arith
   done-few (t ∷ υ) b = omega (arith, done-few υ b, done-top P (after P H υ) (at P H υ t) b)
 
   -- no generation is above the number of steps
   pub gens-few : (υ : List ℕ) (c : ℕ) → gens P H υ c ≤ length υ
-  unfolding Rattle.schedules.specs.Threads.commands state
+  unfolding Rattle.schedules.specs.Threads.logOf state
   gens-few [] c = omega arith
   gens-few (t ∷ υ) c =
       let s = after P H υ in

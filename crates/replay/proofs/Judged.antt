@@ -26,7 +26,7 @@ use Rattle.steps.specs.Step.{allowed}
 use Rattle.replay.specs.Schedules.{stateAfter, Through, Stops, Clean}
 use Rattle.steps.specs.Ending.{isBlocked, barrierSet, lowestAllowed, lowestBlocked, lowestSet, ended, judged}
 use Rattle.replay.specs.Doors.{Replays}
-use Rattle.replay.proofs.Plays.{Ends, through, refused-at, mismatched-at, plays-all}
+use Rattle.replay.proofs.Plays.{PlaysTo, through, refused-at, mismatched-at, plays-all}
 
 ended-ending : (a b d : Bool) (p q r : ℕ) → isEnding (cond a (tell 6 p 0) (cond b (tell 8 q 0) (cond d (tell 9 r 0) (tell 0 0 0))) .number) ≡ true
 ended-ending true b d p q r = refl
@@ -38,7 +38,7 @@ pub judged-ending : {commands lengths : List ℕ} → Keeps commands lengths →
 unfolding judged ended
 judged-ending {commands} {lengths} K σ = by (plays-all K σ)
   where
-    by : Ends K σ [] (played commands lengths σ) 0 → isEnding (judged lengths (played commands lengths σ) .number) ≡ true
+    by : PlaysTo K σ [] (played commands lengths σ) 0 → isEnding (judged lengths (played commands lengths σ) .number) ≡ true
     by (through S G v e) = rw v (ended-ending (ltb (lowestAllowed lengths s) (length lengths)) (ltb (lowestBlocked lengths s) (length lengths)) (ltb (lowestSet s) barriers) _ _ _)
       where
         s : Replay

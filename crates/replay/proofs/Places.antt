@@ -33,7 +33,7 @@ use Rattle.programs.proofs.Programs.{threads}
 use Rattle.replay.proofs.Few.{legal-few, gens-few}
 use Rattle.replay.proofs.Ties.{Stands, command-is, command-row}
 use Rattle.replay.proofs.Judged.{clean-told}
-use Rattle.replay.proofs.Plays.{Ends, through, refused-at, mismatched-at, plays-all, clean-through}
+use Rattle.replay.proofs.Plays.{PlaysTo, through, refused-at, mismatched-at, plays-all, clean-through}
 
 pub record Placed (t : Told) : Type 0 where
   pub place : t .place ≤ mostRows
@@ -83,7 +83,7 @@ module _ {commands lengths : List ℕ} (K : Keeps commands lengths) where
   unfolding judged
   judged-placed σ = by (plays-all K σ)
     where
-      by : Ends K σ [] (played commands lengths σ) 0 → Placed (judged lengths (played commands lengths σ))
+      by : PlaysTo K σ [] (played commands lengths σ) 0 → Placed (judged lengths (played commands lengths σ))
       by (through S G v e) = rw v (ended-placed S (played commands lengths σ .steps) (omega (arith, e, steps-placed σ S)))
       by (refused-at e nay v) = rw v (placed 5 (played commands lengths σ .steps) (omega (arith, e .steps, steps-placed (e .ρ) (e .stands))))
       by (mismatched-at e st m v) = rw v (placed 7 _ (omega (arith, command-row K (e .stands) (e .t) st, K .few-rows)))

@@ -16,7 +16,7 @@ use Rattle.verdicts.specs.declared.Verdict.the-variants as verdict
 use Rattle.relation.proofs.Truth.{split, clashing}
 use Rattle.schedules.specs.Machine as machine
 use Rattle.schedules.specs.Machine.{Program, Matches}
-use Rattle.schedules.specs.Threads.{Threads, at, after, gens, commands, Legal, Steps}
+use Rattle.schedules.specs.Threads.{Threads, at, after, gens, logOf, Legal, Steps}
 use Rattle.schedules.proofs.Step.{gen-other}
 use Rattle.schedules.proofs.Tests.{not-matching}
 use Rattle.steps.specs.declared.state.Replay.{Replay}
@@ -59,19 +59,19 @@ module _ {table lengths : List ℕ} (K : Keeps table lengths) where
     pub steps : r .steps ≡ n + length ρ
 
   -- How a replay that has come to υ ends, with the entries σ left and n steps taken.
-  pub data Ends (σ υ : List ℕ) (r : Replayed) (n : ℕ) : Type 0 where
-    through : Stands K (reverseAux σ υ) (r .state) → Gens (reverseAux σ υ) (r .generations) → r .verdict ≡ verdict.Clean → r .steps ≡ n + length σ → Ends σ υ r n
-    refused-at : (e : Entry σ υ r n) → ¬ Steps P H (reverseAux (e .ρ) υ) (e .t) → r .verdict ≡ verdict.NotAllowed (r .steps) → Ends σ υ r n
+  pub data PlaysTo (σ υ : List ℕ) (r : Replayed) (n : ℕ) : Type 0 where
+    through : Stands K (reverseAux σ υ) (r .state) → Gens (reverseAux σ υ) (r .generations) → r .verdict ≡ verdict.Clean → r .steps ≡ n + length σ → PlaysTo σ υ r n
+    refused-at : (e : Entry σ υ r n) → ¬ Steps P H (reverseAux (e .ρ) υ) (e .t) → r .verdict ≡ verdict.NotAllowed (r .steps) → PlaysTo σ υ r n
     mismatched-at : (e : Entry σ υ r n) → Steps P H (reverseAux (e .ρ) υ) (e .t)
         → machine.Mismatch P (after P H (reverseAux (e .ρ) υ)) (at P H (reverseAux (e .ρ) υ) (e .t))
-        → r .verdict ≡ verdict.Mismatch (at P H (reverseAux (e .ρ) υ) (e .t)) → Ends σ υ r n
+        → r .verdict ≡ verdict.Mismatch (at P H (reverseAux (e .ρ) υ) (e .t)) → PlaysTo σ υ r n
 
   gens-start : Gens [] (replicate mostRows 0)
-  unfolding commands machine.state
+  unfolding logOf machine.state
   gens-start = record { long = length-replicate mostRows 0; same = λ c l. getD-replicate mostRows c 0 0 (omega (arith, K .few-rows)) }
 
   gens-more : (υ : List ℕ) (t : ℕ) (g : List ℕ) → Gens υ g → at P H υ t < rows table → Gens (t ∷ υ) (set g (at P H υ t) (gens P H (t ∷ υ) (at P H υ t)))
-  unfolding commands machine.state
+  unfolding logOf machine.state
   gens-more υ t g G l =
       let c = at P H υ t in
       record {
@@ -87,7 +87,7 @@ module _ {table lengths : List ℕ} (K : Keeps table lengths) where
   entry-later {t} e =
       record { ρ = t ∷ e .ρ; t = e .t; rest = e .rest; splits = ap (λ (l : List ℕ). t ∷ l) (e .splits); stands = e .stands; steps = omega (arith, e .steps) }
 
-  later : {t : ℕ} {σ υ : List ℕ} {r : Replayed} {n : ℕ} → Ends σ (t ∷ υ) r (n + 1) → Ends (t ∷ σ) υ r n
+  later : {t : ℕ} {σ υ : List ℕ} {r : Replayed} {n : ℕ} → PlaysTo σ (t ∷ υ) r (n + 1) → PlaysTo (t ∷ σ) υ r n
   unfolding entry-later
   later (through S G v e) = through S G v (omega arith)
   later (refused-at e nay v) = refused-at (entry-later e) nay v
@@ -110,34 +110,34 @@ module _ {table lengths : List ℕ} (K : Keeps table lengths) where
 
   -- an entry, where the entries after it are known to end
   plays-entry : (t : ℕ) (σ υ : List ℕ) (s : Replay) (g : List ℕ) (n : ℕ) → n ≡ length υ → Stands K υ s → Gens υ g
-      → ((s′ : Replay) (g′ : List ℕ) → Stands K (t ∷ υ) s′ → Gens (t ∷ υ) g′ → Ends σ (t ∷ υ) (goOn table lengths σ (ends s′ g′ (n + 1) verdict.Clean)) (n + 1))
-      → Ends (t ∷ σ) υ (goOn table lengths (t ∷ σ) (ends s g n verdict.Clean)) n
+      → ((s′ : Replay) (g′ : List ℕ) → Stands K (t ∷ υ) s′ → Gens (t ∷ υ) g′ → PlaysTo σ (t ∷ υ) (goOn table lengths σ (ends s′ g′ (n + 1) verdict.Clean)) (n + 1))
+      → PlaysTo (t ∷ σ) υ (goOn table lengths (t ∷ σ) (ends s g n verdict.Clean)) n
   unfolding here
   plays-entry t σ υ s g n c S G rest =
       ⊎-elim (λ e. let st = allowed-steps K S t e in by st (outcome K S t st))
       (λ f.
       let k = not-allowed K s t f in
       let r = ends s g n (verdict.NotAllowed n) in
-      subst (λ (r : Replayed). Ends (t ∷ σ) υ r n)
+      subst (λ (r : Replayed). PlaysTo (t ∷ σ) υ r n)
       (sym (goes t σ s g n (ap (λ (d : Stepped). d .did) k) (ap (λ (d : Stepped). d .after) k) ∙ stays-ended table lengths r (λ z. omega arith) σ))
       (refused-at (here t σ υ r n S refl) (λ st. clashing (steps-allowed K S t st) f) refl))
       (split (allowed lengths s t))
     where
-      by : Steps P H υ t → Outcome K υ s t → Ends (t ∷ σ) υ (goOn table lengths (t ∷ σ) (ends s g n verdict.Clean)) n
+      by : Steps P H υ t → Outcome K υ s t → PlaysTo (t ∷ σ) υ (goOn table lengths (t ∷ σ) (ends s g n verdict.Clean)) n
       by st (ran q m S′) =
-          subst (λ (r : Replayed). Ends (t ∷ σ) υ r n) (sym (goes t σ s g n q refl))
+          subst (λ (r : Replayed). PlaysTo (t ∷ σ) υ r n) (sym (goes t σ s g n q refl))
           (later (rw (counts-on S c) (rest (stepped table lengths s t .after) _ S′ (gens-more υ t g G (command-row K S t st)))))
       by st (mismatched q k m) =
           let r = ends s g n (verdict.Mismatch (at P H υ t)) in
-          subst (λ (r : Replayed). Ends (t ∷ σ) υ r n) (sym (goes t σ s g n q k ∙ stays-ended table lengths r (λ z. omega arith) σ)) (mismatched-at (here t σ υ r n S refl) st m refl)
+          subst (λ (r : Replayed). PlaysTo (t ∷ σ) υ r n) (sym (goes t σ s g n q k ∙ stays-ended table lengths r (λ z. omega arith) σ)) (mismatched-at (here t σ υ r n S refl) st m refl)
 
-  plays : (σ υ : List ℕ) (s : Replay) (g : List ℕ) (n : ℕ) → n ≡ length υ → Stands K υ s → Gens υ g → Ends σ υ (goOn table lengths σ (ends s g n verdict.Clean)) n
+  plays : (σ υ : List ℕ) (s : Replay) (g : List ℕ) (n : ℕ) → n ≡ length υ → Stands K υ s → Gens υ g → PlaysTo σ υ (goOn table lengths σ (ends s g n verdict.Clean)) n
   unfolding goOn
   plays [] υ s g n c S G = through S G refl (omega arith)
   plays (t ∷ σ) υ s g n c S G = plays-entry t σ υ s g n c S G (λ s′ g′ S′ G′. plays σ (t ∷ υ) s′ g′ (n + 1) (omega arith) S′ G′)
 
   -- how the replay of a schedule ends
-  pub plays-all : (σ : List ℕ) → Ends σ [] (played table lengths σ) 0
+  pub plays-all : (σ : List ℕ) → PlaysTo σ [] (played table lengths σ) 0
   unfolding played begun
   plays-all σ = plays σ [] start _ 0 refl (stands-start K) gens-start
 
@@ -147,7 +147,7 @@ module _ {table lengths : List ℕ} (K : Keeps table lengths) where
   legal-part [] υ L = L
   legal-part (t ∷ ρ) υ L = legal-part ρ (t ∷ υ) L .0
 
-  pub record Through (σ : List ℕ) : Type 0 where
+  pub record PlaysThrough (σ : List ℕ) : Type 0 where
     pub stands : Stands K (reverse σ) (played table lengths σ .state)
     pub gens : Gens (reverse σ) (played table lengths σ .generations)
     pub verdict : played table lengths σ .verdict ≡ verdict.Clean
@@ -161,18 +161,18 @@ module _ {table lengths : List ℕ} (K : Keeps table lengths) where
       let b : Legal P H (e .t ∷ reverse (e .ρ)) = legal-part (e .rest) _ (subst (Legal P H) a L) in
       (b .1, b .2)
 
-  pub legal-through : (σ : List ℕ) → Legal P H (reverse σ) → Through σ
+  pub legal-through : (σ : List ℕ) → Legal P H (reverse σ) → PlaysThrough σ
   legal-through σ L = by (plays-all σ)
     where
-      by : Ends σ [] (played table lengths σ) 0 → Through σ
+      by : PlaysTo σ [] (played table lengths σ) 0 → PlaysThrough σ
       by (through S G v e) = record { stands = S; gens = G; verdict = v; steps = omega arith }
       by (refused-at e nay v) = absurd (nay (legal-entry e L .0))
       by (mismatched-at e st m v) = absurd (not-matching m (legal-entry e L .1))
 
-  pub clean-through : (σ : List ℕ) → played table lengths σ .verdict ≡ verdict.Clean → Through σ
+  pub clean-through : (σ : List ℕ) → played table lengths σ .verdict ≡ verdict.Clean → PlaysThrough σ
   clean-through σ c = by (plays-all σ)
     where
-      by : Ends σ [] (played table lengths σ) 0 → Through σ
+      by : PlaysTo σ [] (played table lengths σ) 0 → PlaysThrough σ
       by (through S G v e) = record { stands = S; gens = G; verdict = v; steps = omega arith }
       by (refused-at e nay v) = absurd (let z : 0 ≡ 5 = ap (λ (w : Verdict). numbered w .number) (sym c ∙ v) in omega arith)
       by (mismatched-at e st m v) = absurd (let z : 0 ≡ 7 = ap (λ (w : Verdict). numbered w .number) (sym c ∙ v) in omega arith)

@@ -11,7 +11,7 @@ use Rattle.verdicts.specs.declared.Told.{Told}
 use Rattle.verdicts.specs.declared.Verdict.{Verdict}
 use Rattle.rules.proofs.Rules.{passes-zero, kept}
 use Rattle.rules.proofs.Checked.{check-first, check-second}
-use Rattle.verdicts.proofs.InOrder.{or-first}
+use Rattle.verdicts.proofs.FirstTold.{or-first}
 use Rattle.rooms.specs.Short.{roomOf, firstShort}
 use Rattle.rooms.proofs.Rooms.{more-long, all-long, none-either}
 use Rattle.replay.specs.Writer.{writerRooms, unwritten}

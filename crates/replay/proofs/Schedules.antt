@@ -28,7 +28,7 @@ use Rattle.programs.proofs.Programs as programs
 use Rattle.replay.proofs.Tied as tied
 use Rattle.replay.proofs.Ties.{allowed-steps, steps-allowed, blocked-is, unset-is, no-barrier}
 use Rattle.replay.proofs.Few.{legal-all}
-use Rattle.replay.proofs.Plays.{Ends, through, refused-at, mismatched-at, Through, plays-all, legal-through, clean-through}
+use Rattle.replay.proofs.Plays.{PlaysTo, through, refused-at, mismatched-at, PlaysThrough, plays-all, legal-through, clean-through}
 
 -- verdicts of different numbers are not the same
 pub unlike {ℓ} : {A : Type ℓ} {v w : Verdict} → v ≡ w → numbered v .number ≢ numbered w .number → A
@@ -43,17 +43,17 @@ module _ {table lengths : List ℕ} (K : Keeps table lengths) where
 
   -- ---- complete
 
-  stops-to : {σ : List ℕ} → Through K σ → Stops table lengths σ → threads.Stops P H (reverse σ)
+  stops-to : {σ : List ℕ} → PlaysThrough K σ → Stops table lengths σ → threads.Stops P H (reverse σ)
   stops-to T stop t st = clashing (steps-allowed K (T .stands) t st) (stop t)
 
-  stops-from : {σ : List ℕ} → Through K σ → threads.Stops P H (reverse σ) → Stops table lengths σ
+  stops-from : {σ : List ℕ} → PlaysThrough K σ → threads.Stops P H (reverse σ) → Stops table lengths σ
   stops-from T stop t = isnt _ (λ e. stop t (allowed-steps K (T .stands) t e))
 
   pub complete-to : {σ : List ℕ} → Complete table lengths σ → threads.Complete P H (reverse σ)
   complete-to {σ} (stopped c stop) = let T = clean-through K σ c in threads.stopped (T .stands .legal) (stops-to T stop)
   complete-to {σ} (mismatched {c} v len) = by (plays-all K σ)
     where
-      by : Ends K σ [] (played table lengths σ) 0 → threads.Complete P H (reverse σ)
+      by : PlaysTo K σ [] (played table lengths σ) 0 → threads.Complete P H (reverse σ)
       by (through S G w e) = unlike (sym v ∙ w) (λ z. omega arith)
       by (refused-at e nay w) = unlike (sym v ∙ w) (λ z. omega arith)
       by (mismatched-at e st m w) =
@@ -66,13 +66,13 @@ module _ {table lengths : List ℕ} (K : Keeps table lengths) where
           no-rest (x ∷ l) h = absurd (omega arith)
 
   -- one more entry, after entries that go through
-  last-entry : (ρ : List ℕ) (t : ℕ) (d : Did) → Through K ρ → stepped table lengths (played table lengths ρ .state) t .did ≡ d
+  last-entry : (ρ : List ℕ) (t : ℕ) (d : Did) → PlaysThrough K ρ → stepped table lengths (played table lengths ρ .state) t .did ≡ d
       → played table lengths (ρ ++ t ∷ []) ≡ wentOn d (stepped table lengths (played table lengths ρ .state) t .after) (played table lengths ρ)
   unfolding played goOn
   last-entry ρ t d T e =
       go-on-joined table lengths ρ (t ∷ []) begun ∙ one-on table lengths (played table lengths ρ) t (ap (λ (v : Verdict). numbered v .number) (T .verdict)) e refl
 
-  mismatch-last : (ρ : List ℕ) (t : ℕ) → Through K ρ → threads.Steps P H (reverse ρ) t
+  mismatch-last : (ρ : List ℕ) (t : ℕ) → PlaysThrough K ρ → threads.Steps P H (reverse ρ) t
       → machine.Mismatch P (threads.after P H (reverse ρ)) (threads.at P H (reverse ρ) t) → Complete table lengths (ρ ++ t ∷ [])
   mismatch-last ρ t T st m = by (tied.outcome K (T .stands) t st)
     where
@@ -117,7 +117,7 @@ module _ {table lengths : List ℕ} (K : Keeps table lengths) where
         unset = λ b l. unset-is K (T .stands) b l .1 (C .unset b);
       }
 
-  pub generation-is : {σ : List ℕ} → Through K σ → (c : ℕ) → c < rows table → generation (played table lengths σ) c ≡ threads.gens P H (reverse σ) c
+  pub generation-is : {σ : List ℕ} → PlaysThrough K σ → (c : ℕ) → c < rows table → generation (played table lengths σ) c ≡ threads.gens P H (reverse σ) c
   generation-is T c l = T .gens .same c l
 
   -- a clean schedule runs every command

@@ -14,7 +14,7 @@ use Rattle.tables.proofs.Lowest.{lowest-hit, lowest-miss}
 use Rattle.relation.proofs.Truth.{split, clashing, both, isnt, pair}
 use Rattle.schedules.specs.Machine.{Program, state}
 use Rattle.schedules.specs.Threads as threads
-use Rattle.schedules.specs.Order.{Goes, stays}
+use Rattle.schedules.specs.HappensBefore.{Goes, stays}
 use Rattle.schedules.proofs.Step.{ran-other}
 use Rattle.schedules.proofs.Tests.{not-matching}
 use Rattle.steps.specs.declared.state.Replay.{Replay}
@@ -50,7 +50,7 @@ module _ {table lengths : List ℕ} (K : Keeps table lengths) (pick : ℕ → Bo
   Only υ = (x : ℕ) → threads.after P H υ .ran x ≡ true → pick x ≡ true
 
   only-more : (υ : List ℕ) (t : ℕ) → Only υ → pick (threads.at P H υ t) ≡ true → Only (t ∷ υ)
-  unfolding threads.commands state
+  unfolding threads.logOf state
   only-more υ t only e x r =
       by-cases (ℕ-discrete (threads.at P H υ t) x) (λ (q : threads.at P H υ t ≡ x). ap pick (sym q) ∙ e)
       (λ (n : threads.at P H υ t ≢ x). only x (sym (ran-other P (threads.after P H υ) (threads.at P H υ t) x n) ∙ r))
@@ -96,5 +96,5 @@ module _ {table lengths : List ℕ} (K : Keeps table lengths) (pick : ℕ → Bo
   steered (suc n) υ s S only l = one-more n υ s S only (λ t R o. steered n (t ∷ υ) _ R o (omega arith))
 
   pub steered-all : Steered (reverse (scheduleBy choose table lengths))
-  unfolding scheduleBy threads.commands state
+  unfolding scheduleBy threads.logOf state
   steered-all = steered (rows table) [] start (stands-start K) (λ x e. clashing e refl) (omega arith)

@@ -125,7 +125,7 @@ module _ {commands lengths : List ℕ} (K : Keeps commands lengths) where
           → ((u : ℕ) → u < length lengths → t ≢ u → WaitIs P H (t ∷ υ) u (getD ws u 0))
           → ((b : ℕ) → b < barriers → BarrierIs P (next P σ c) b (getD bs b (unset 0)))
           → Stands K (t ∷ υ) (record { next = set (s .next) t (ranSoFar s t + 1); waits = ws; barriers = bs })
-      unfolding state Rattle.schedules.specs.Threads.commands
+      unfolding state Rattle.schedules.specs.Threads.logOf
       tied ws bs ls lb own others each =
           record {
             legal = (S .legal, st, m);
@@ -156,7 +156,7 @@ module _ {commands lengths : List ℕ} (K : Keeps commands lengths) where
 
       -- it does not register
       idle : registers commands c ≡ false → Outcome υ s t
-      unfolding running state Rattle.schedules.specs.Threads.commands
+      unfolding running state Rattle.schedules.specs.Threads.logOf
       idle f =
           ran-so (rw f) (sym (gen-idle P σ c c refl f))
           (tied (s .waits) (s .barriers) (S .tie .waits-long) (S .tie .barriers-long)
@@ -185,7 +185,7 @@ module _ {commands lengths : List ℕ} (K : Keeps commands lengths) where
             (barrier-other (lawful K) G A m (λ k h. n (h .at)) (S .tie .barrier a l)))
 
         generation : v .done + 1 ≡ gens P H (t ∷ υ) c
-        unfolding state Rattle.schedules.specs.Threads.commands
+        unfolding state Rattle.schedules.specs.Threads.logOf
         generation = omega (arith, B .done, gen-same P σ c c refl reg)
 
         barriers-long : (v′ : Barrier) → length (set (s .barriers) b v′) ≡ barriers

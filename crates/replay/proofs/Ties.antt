@@ -53,7 +53,7 @@ module _ {commands lengths : List ℕ} (K : Keeps commands lengths) where
     pub tie : Tie υ s
 
   pub stands-start : Stands [] start
-  unfolding start at state Rattle.schedules.specs.Threads.commands
+  unfolding start at state Rattle.schedules.specs.Threads.logOf
   stands-start =
       record {
         legal = tt;

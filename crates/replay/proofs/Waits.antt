@@ -7,7 +7,7 @@ use Prim.Native.Nat.{ℕ, suc, _+_, _≤_}
 use native.Mathlib.Nat.{suc-inj}
 use native.Mathlib.Omega.{arith}
 use Rattle.schedules.specs.Machine.{Program, Lawful, State, Open, Matches, completes, next, state, Ready}
-use Rattle.schedules.specs.Threads.{Threads, at, commands, after, Blocked, Steps, Legal}
+use Rattle.schedules.specs.Threads.{Threads, at, logOf, after, Blocked, Steps, Legal}
 use Rattle.schedules.proofs.Logs.{Allowed}
 use Rattle.schedules.proofs.Step.{ran-same, gen-same, done-more}
 use Rattle.schedules.proofs.Good.{Good, ready-kept, member-kept, joins}
@@ -57,7 +57,7 @@ module _ {P : Program} {H : Threads P} where
 
     -- another thread that does not wait at a barrier that completes
     pub wait-other : {u w : ℕ} → t ≢ u → ((b : ℕ) → w ≡ b + 1 → next P s c .done b ≡ s .done b) → WaitIs P H υ u w → WaitIs P H (t ∷ υ) u w
-    unfolding commands state
+    unfolding logOf state
     wait-other {u} {w} n kept x = record { free = λ z B. x .free z (before B); held = λ nz. after-it (x .held nz) }
       where
         before : Blocked P H (t ∷ υ) u → Blocked P H υ u
@@ -83,7 +83,7 @@ module _ {P : Program} {H : Threads P} where
     -- another thread that waits where t completes the barrier
     pub wait-freed : {u w : ℕ} → t ≢ u → registers c ≡ true → completes P s c ≡ true → w ≡ barrier c + 1 → WaitIs P H υ u w
         → WaitIs P H (t ∷ υ) u 0
-    unfolding commands state
+    unfolding logOf state
     wait-freed {u} {w} n r f e x = record { free = λ _ B. B .unready (ready B); held = λ nz. absurd (nz refl) }
       where
         h : Held P H υ u w
@@ -98,7 +98,7 @@ module _ {P : Program} {H : Threads P} where
 
     -- t itself, after a command that is no sync or that completes its barrier
     pub wait-gone : (syncs c ≡ true → completes P s c ≡ true) → WaitIs P H (t ∷ υ) t 0
-    unfolding commands state
+    unfolding logOf state
     wait-gone f = record { free = λ _ B. B .unready (rw (sym (is B)) ready); held = λ nz. absurd (nz refl) }
       where
         is : (B : Blocked P H (t ∷ υ) t) → c ≡ B .last
@@ -116,7 +116,7 @@ module _ {P : Program} {H : Threads P} where
 
     -- t itself, after a sync that does not
     pub wait-on : syncs c ≡ true → next P s c .done (barrier c) ≡ s .done (barrier c) → WaitIs P H (t ∷ υ) t (barrier c + 1)
-    unfolding commands state
+    unfolding logOf state
     wait-on y d =
         record {
           free = λ z. absurd (omega arith);

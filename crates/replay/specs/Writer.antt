@@ -8,7 +8,7 @@ use lib.Dec.{eqb}
 use lib.ListN.{length}
 use Rattle.tables.specs.Rows.{rows}
 use Rattle.rules.specs.Rules.{checked}
-use Rattle.verdicts.specs.InOrder.{orElse}
+use Rattle.verdicts.specs.FirstTold.{orElse}
 use Rattle.verdicts.specs.declared.Told.{Told}
 use Rattle.rooms.specs.Short.{roomOf, firstShort}
 use Rattle.turns.specs.Turns.{goesFirst}
@@ -48,9 +48,9 @@ pub record PutsApart (ρ : ℕ → ℕ → Bool) (c d : ℕ) (before after : Lis
 -- ---- refusals
 
 -- the room of a schedule writer, which is lent no other: the schedule room (2)
-abbrev pub writerRooms : (m room : ℕ) → List (List ℕ)
-writerRooms m room = roomOf 2 m room ∷ []
+abbrev pub writerRooms : (m given : ℕ) → List (List ℕ)
+writerRooms m given = roomOf 2 m given ∷ []
 
 -- 1 to 4, of tables and the length of the room
 unfoldable pub unwritten : List ℕ → List ℕ → ℕ → Told
-unwritten commands lengths room = orElse (checked commands lengths) (firstShort (writerRooms (rows commands) room))
+unwritten commands lengths given = orElse (checked commands lengths) (firstShort (writerRooms (rows commands) given))

@@ -19,7 +19,7 @@ fn conclude(replayed: Replayed, lengths: &[u32]) -> Verdict
     ensures { λ r. ⌜ numbered r ≡ judged (now (lengths .entry)) replayed ⌝ }
 {
     let verdict = replayed.verdict;
-    if verdict.number().number != 0 {
+    if verdict.told().number != 0 {
         return verdict;
     }
     replayed.state.ending(lengths, replayed.steps)

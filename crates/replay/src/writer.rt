@@ -27,12 +27,12 @@ fn write_first(commands: &[u32], lengths: &[u32], early: &[bool], room: &mut [u3
         (now (commands .entry)) (now (lengths .entry)) (now (room .entry)) (now (room .exit)) r ⌝ }
 {
     let verdict = check_tables(commands, lengths);
-    if verdict.number().number != 0 {
+    if verdict.told().number != 0 {
         return Written { verdict, length: 0 };
     }
     let m = commands.len() / 3;
     let short = short_room(&[[2, m, room.len()]]);
-    if short.number().number != 0 {
+    if short.told().number != 0 {
         return Written {
             verdict: short,
             length: 0,

@@ -19,10 +19,10 @@ use Rattle.verdicts.proofs.Numbers.{refusal-unfilled, refusal-verdict, ending-v
 use Rattle.rules.proofs.Rules.{passes-zero}
 use Rattle.relation.specs.Table.{width, words}
 use Rattle.relation.proofs.Truth.{clashing, split}
-use Rattle.verdicts.specs.InOrder.{orElse}
+use Rattle.verdicts.specs.FirstTold.{orElse}
 use Rattle.steps.specs.Going.{played}
 use Rattle.steps.specs.Ending.{judged}
-use Rattle.verdicts.proofs.InOrder.{or-first, or-either}
+use Rattle.verdicts.proofs.FirstTold.{or-first, or-either}
 use Rattle.replay.proofs.Judged.{judged-ending}
 use Rattle.replay.proofs.Places.{Placed, placed, checked-placed, judged-placed, complete-told}
 use Rattle.replay.specs.Schedules.{Complete}
@@ -33,9 +33,9 @@ use Rattle.faults.specs.declared.faults.Fault.the-variants.{Reuse, Race}
 use Rattle.findings.specs.declared.finding.Finding.{Finding}
 use Rattle.faults.specs.Faults.{pairOf, faults}
 use Rattle.sheet.specs.Sheet.{mostKept, pair, firsts, sheetOf}
-use Rattle.rooms.specs.Refusals.{refused}
+use Rattle.rooms.specs.Refusals.{refusal}
 use Rattle.findings.specs.Findings.{firstPair, orPairs, faultTold, faultPairs}
-use Rattle.review.specs.Judge.{generations, reaches, verdictOf}
+use Rattle.review.specs.Judge.{generationsBy, reaches, verdictOf}
 use Rattle.review.specs.Agreement.{number, Reviewed}
 use Rattle.rooms.proofs.Refusals.{admitted, refused-tables, refused-none, refused-either}
 use Rattle.faults.proofs.Searched.{faults-few}
@@ -104,19 +104,19 @@ module _ (commands lengths σ : List ℕ) (relation room : ℕ) where
   told = verdictOf commands lengths σ relation room
 
   abbrev refusal : Told
-  refusal = refused commands lengths relation room
+  refusal = refusal commands lengths relation room
 
   abbrev ending : Told
   ending = judged lengths (played commands lengths σ)
 
   abbrev faulty : Told
-  faulty = faultTold commands lengths (generations commands lengths σ) (reaches commands lengths σ)
+  faulty = faultTold commands lengths (generationsBy commands lengths σ) (reaches commands lengths σ)
 
   abbrev found : Fault → List Pair
-  found = faults commands lengths (generations commands lengths σ) (reaches commands lengths σ)
+  found = faults commands lengths (generationsBy commands lengths σ) (reaches commands lengths σ)
 
   abbrev pairs : List Pair
-  pairs = faultPairs commands lengths (generations commands lengths σ) (reaches commands lengths σ)
+  pairs = faultPairs commands lengths (generationsBy commands lengths σ) (reaches commands lengths σ)
 
   -- it is a refusal, or is told of tables that pass
   told-either : (P : Told → Type 0) → P refusal → (Keeps commands lengths → P ending) → (Keeps commands lengths → P faulty) → P told
@@ -166,36 +166,36 @@ module _ (commands lengths σ : List ℕ) (relation room : ℕ) where
 
 -- ---- the finding
 
-pub record Small (r : Finding) : Type 0 where
+pub record SmallNumbers (r : Finding) : Type 0 where
   pub place : numbered (r .verdict) .place ≤ mostRows
   pub also : numbered (r .verdict) .also ≤ mostRows
   pub total : r .sheet .total ≤ mostRows * mostRows
   pub pairs : (k : ℕ) → k < mostKept → Low (getD (r .sheet .pairs) k (pair 0 0))
 
-abbrev Fits : Sheet → Type 0
-Fits s = (s .total ≤ mostRows * mostRows) × ((k : ℕ) → k < mostKept → Low (getD (s .pairs) k (pair 0 0)))
+abbrev SmallSheet : Sheet → Type 0
+SmallSheet s = (s .total ≤ mostRows * mostRows) × ((k : ℕ) → k < mostKept → Low (getD (s .pairs) k (pair 0 0)))
 
-empty-fits : Fits (sheetOf [])
+empty-fits : SmallSheet (sheetOf [])
 unfolding sheetOf
 empty-fits = (omega arith, firsts-low mostKept [] (λ k l. none-low))
 
 -- a verdict without pairs
-pub bare-small : (v : Verdict) → Placed (numbered v) → Small (record { verdict = v; sheet = sheetOf [] })
+pub bare-small : (v : Verdict) → Placed (numbered v) → SmallNumbers (record { verdict = v; sheet = sheetOf [] })
 bare-small v P = record { place = P .place; also = P .also; total = empty-fits .0; pairs = empty-fits .1 }
 
 pub finding-small : {commands lengths σ relation room : List ℕ} {r : Finding} {relation′ room′ : List ℕ}
-    → Reviewed commands lengths σ relation room r relation′ room′ → Small r
+    → Reviewed commands lengths σ relation room r relation′ room′ → SmallNumbers r
 unfolding sheetOf
 finding-small {commands} {lengths} {σ} {relation} {room} {r} R =
     let e = R .demand₂ .verdict in
     let P = subst Placed (sym e) (told-placed commands lengths σ (length relation) (length room)) in
-    let (t, p) = ⊎-elim by (λ f. subst Fits (sym (R .demand₁ .empty f)) empty-fits) (split (fills (number r))) in
+    let (t, p) = ⊎-elim by (λ f. subst SmallSheet (sym (R .demand₁ .empty f)) empty-fits) (split (fills (number r))) in
     record { place = P .place; also = P .also; total = t; pairs = p }
   where
-    by : fills (number r) ≡ true → Fits (r .sheet)
+    by : fills (number r) ≡ true → SmallSheet (r .sheet)
     by f =
         let h : fills (verdictOf commands lengths σ (length relation) (length room) .number) ≡ true = subst (λ (t : Told). fills (t .number) ≡ true) (R .demand₂ .verdict) f in
-        subst Fits (sym (R .demand₂ .sheet f))
+        subst SmallSheet (sym (R .demand₂ .sheet f))
         (pairs-few commands lengths σ (length relation) (length room) h, pairs-small commands lengths σ (length relation) (length room) h)
 
 -- ---- rooms for the longest tables
@@ -206,7 +206,7 @@ words-most m l = mul-le-mul l (omega arith)
 
 module _ (commands lengths : List ℕ) where
   -- have room for all that pass
-  pub full-rooms : checked commands lengths .number ≡ 0 → refused commands lengths (words mostRows) mostRows ≡ tell 0 0 0
+  pub full-rooms : checked commands lengths .number ≡ 0 → refusal commands lengths (words mostRows) mostRows ≡ tell 0 0 0
   full-rooms e =
       let few = passes-zero commands lengths e .few-rows in
       sym (refused-none commands lengths (words mostRows) mostRows e (words-most (rows commands) few) few)
@@ -221,7 +221,7 @@ module _ (commands lengths : List ℕ) where
   -- and tables that pass are judged by their schedule
   pub passed-told : checked commands lengths .number ≡ 0 → (σ : List ℕ)
       → verdictOf commands lengths σ (words mostRows) mostRows
-      ≡ orElse (judged lengths (played commands lengths σ)) (faultTold commands lengths (generations commands lengths σ) (reaches commands lengths σ))
+      ≡ orElse (judged lengths (played commands lengths σ)) (faultTold commands lengths (generationsBy commands lengths σ) (reaches commands lengths σ))
   unfolding verdictOf
   passed-told e σ = rw (full-rooms e)
 
@@ -238,7 +238,7 @@ module _ (commands lengths : List ℕ) where
       j = judged lengths (played commands lengths σ)
 
       g : Fault → List Pair
-      g = faults commands lengths (generations commands lengths σ) (reaches commands lengths σ)
+      g = faults commands lengths (generationsBy commands lengths σ) (reaches commands lengths σ)
 
       f : Told
-      f = faultTold commands lengths (generations commands lengths σ) (reaches commands lengths σ)
+      f = faultTold commands lengths (generationsBy commands lengths σ) (reaches commands lengths σ)

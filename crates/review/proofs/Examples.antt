@@ -11,7 +11,7 @@ use Rattle.rules.specs.Rules.{rowKeeps, firstBad, checked}
 use Rattle.turns.specs.Turns.{held, hasLeft, mayStep}
 use Rattle.relation.specs.Chains.{rounds}
 use Rattle.relation.specs.Table.{width}
-use Rattle.schedules.specs.Order.{edge, reach}
+use Rattle.schedules.specs.HappensBefore.{edge, reach}
 use Rattle.barriers.specs.Counting.{counted}
 use Rattle.barriers.specs.Barrier.{registration}
 use Rattle.steps.specs.State.{start}
@@ -21,12 +21,12 @@ use Rattle.steps.specs.Ending.{ended, judged}
 use Rattle.sheet.specs.Sheet.{sheetOf}
 use Rattle.faults.specs.Faults.{succeeds, reuse, conflict, race, alongRow, allRows, faults}
 use Rattle.rooms.specs.Short.{firstShort}
-use Rattle.rooms.specs.Refusals.{refused}
+use Rattle.rooms.specs.Refusals.{refusal}
 use Rattle.findings.specs.Findings.{faultTold}
 use Rattle.verdicts.specs.Verdicts.{tell, numbered}
 use Rattle.verdicts.specs.declared.Told.{Told}
-use Rattle.verdicts.specs.InOrder.{orElse}
-use Rattle.review.specs.Judge.{verdictOf, generations, reaches}
+use Rattle.verdicts.specs.FirstTold.{orElse}
+use Rattle.review.specs.Judge.{verdictOf, generationsBy, reaches}
 use Rattle.review.specs.Agreement.{Review, SameFile, Unrefused}
 use Rattle.review.specs.Examples.{examples, all, same, word, below, holds, fourSyncs, oneEach, TenDiffers}
 
@@ -34,14 +34,14 @@ pub every : all holds examples ≡ true
 unfolding all holds examples same word below
     mostRows mostThreads addresses barriers mostCount total firstRow threadOf lowest rowKeeps firstBad checked
     rounds width edge reach counted registration start held hasLeft mayStep allowed registering running stepped oneOn goOn begun played ended sheetOf
-    succeeds reuse conflict race alongRow allRows faults firstShort refused judged verdictOf
+    succeeds reuse conflict race alongRow allRows faults firstShort refusal judged verdictOf
 every = refl
 
 -- what the definitions tell of C, by two schedules
 abbrev told : List ℕ → Told
 told σ =
     orElse (judged oneEach (played fourSyncs oneEach σ))
-    (faultTold fourSyncs oneEach (generations fourSyncs oneEach σ) (reaches fourSyncs oneEach σ))
+    (faultTold fourSyncs oneEach (generationsBy fourSyncs oneEach σ) (reaches fourSyncs oneEach σ))
 
 two-told : (told (0 ∷ 1 ∷ 2 ∷ 3 ∷ []) ≡ tell 10 0 2) × (told (0 ∷ 2 ∷ 1 ∷ 3 ∷ []) ≡ tell 10 0 1)
 unfolding mostRows mostThreads barriers total firstRow threadOf lowest counted registration start held hasLeft mayStep allowed registering running stepped oneOn goOn begun played ended

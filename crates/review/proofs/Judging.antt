@@ -21,7 +21,7 @@ use Rattle.relation.proofs.Truth.{clashing}
 use Rattle.schedules.specs.Machine as machine
 use Rattle.schedules.specs.Machine.{Program}
 use Rattle.schedules.specs.Threads as threads
-use Rattle.schedules.specs.Order.{Reaches, Reuse, reach}
+use Rattle.schedules.specs.HappensBefore.{Reaches, Reuse, reach}
 use Rattle.schedules.specs.Claims as claims
 use Rattle.schedules.proofs.Tests.{not-matching}
 use Rattle.schedules.proofs.Theorems.{agreement, one-order, real, decided}
@@ -29,18 +29,18 @@ use Rattle.sheet.specs.declared.Pair.{Pair}
 use Rattle.faults.specs.declared.faults.Fault.the-variants as fault
 use Rattle.steps.specs.Step.{allowed}
 use Rattle.steps.specs.Ending.{isBlocked, barrierSet, lowestAllowed, lowestBlocked, lowestSet, lastRun, ended, judged}
-use Rattle.verdicts.specs.InOrder.{orElse}
+use Rattle.verdicts.specs.FirstTold.{orElse}
 use Rattle.steps.specs.Going.{played}
 use Rattle.programs.specs.Program.{program}
 use Rattle.faults.specs.Faults.{conflict, race, faults}
 use Rattle.findings.specs.Findings.{firstPair, faultTold}
-use Rattle.review.specs.Judge.{generations, reaches}
+use Rattle.review.specs.Judge.{generationsBy, reaches}
 use Rattle.replay.specs.Schedules.{stateAfter, Complete, stopped, mismatched, Clean, Agree, Disagree, unclean}
 use Rattle.replay.specs.Schedules as schedules
 use Rattle.review.specs.Agreement.{Judges}
 use Rattle.replay.proofs.Judged.{stops-by, clean-by}
 use Rattle.programs.proofs.Programs as programs
-use Rattle.replay.proofs.Plays.{Ends, through, refused-at, mismatched-at, Through, plays-all, clean-through, legal-through}
+use Rattle.replay.proofs.Plays.{PlaysTo, through, refused-at, mismatched-at, PlaysThrough, plays-all, clean-through, legal-through}
 use Rattle.replay.proofs.Schedules.{unlike, complete-from, clean-to, generation-is}
 use Rattle.programs.proofs.Reaching.{reuse-same, reaches-same}
 use Rattle.replay.proofs.Agreements.{agree-from, disagreed, order-to, order-from}
@@ -80,9 +80,9 @@ module _ {table lengths : List ℕ} (K : Keeps table lengths) (σ : List ℕ) wh
 
   module _ (C : Clean table lengths σ) where
     abbrev g : ℕ → ℕ
-    g = generations table lengths σ
+    g = generationsBy table lengths σ
 
-    T : Through K σ
+    T : PlaysThrough K σ
     T = clean-through K σ (C .through)
 
     same : (c : ℕ) → c < rows table → g c ≡ threads.gens P H (reverse σ) c
@@ -125,7 +125,7 @@ module _ {table lengths : List ℕ} (K : Keeps table lengths) (σ : List ℕ) wh
 
       -- two accesses stand in the same order in all schedules exactly when one reaches the other
       ordered : (x y : ℕ) → x < rows table → y < rows table → x ≢ y → conflict table x y ≡ true
-          → claims.SameOrder P H x y ↔ (Reaches P g x y ⊎ Reaches P g y x)
+          → claims.InOneOrder P H x y ↔ (Reaches P g x y ⊎ Reaches P g y x)
       ordered x y lx ly ne c =
           let (ax, ay) = accesses table x y c in
           let (to, from) = one-order (programs.lawful K) H (reverse σ) settled x y lx ly ax ay ne in
@@ -180,7 +180,7 @@ module _ {table lengths : List ℕ} (K : Keeps table lengths) (σ : List ℕ) wh
 
   -- the verdict, of tables and rooms that pass refusals 1 to 4
   abbrev pub told : Told
-  told = orElse (judged lengths (played table lengths σ)) (faultTold table lengths (generations table lengths σ) (reaches table lengths σ))
+  told = orElse (judged lengths (played table lengths σ)) (faultTold table lengths (generationsBy table lengths σ) (reaches table lengths σ))
 
   not-complete : (v : Verdict) → (played table lengths σ) .verdict ≡ v → numbered v .number ≢ 0 → numbered v .number ≢ 7 → ¬ Complete table lengths σ
   not-complete v e a b (stopped c _) = unlike (sym e ∙ c) a
@@ -192,7 +192,7 @@ module _ {table lengths : List ℕ} (K : Keeps table lengths) (σ : List ℕ) wh
         → ltb (lowestSet (stateAfter table lengths σ)) barriers ≡ d
         → Judges table lengths σ
         (orElse (cond a (tell 6 ((played table lengths σ) .steps) 0) (cond b (tell 8 (lastRun lengths (stateAfter table lengths σ) (lowestBlocked lengths (stateAfter table lengths σ))) 0) (cond d (tell 9 (lowestSet (stateAfter table lengths σ)) 0) (tell 0 0 0))))
-        (faultTold table lengths (generations table lengths σ) (reaches table lengths σ)) .number)
+        (faultTold table lengths (generationsBy table lengths σ) (reaches table lengths σ)) .number)
     judges-through true b d ea eb ed =
         judges-incomplete 6 (λ C. incomplete C (lowest-hit (allowed lengths (stateAfter table lengths σ)) (length lengths) ea .1)) refl refl
       where
@@ -212,7 +212,7 @@ module _ {table lengths : List ℕ} (K : Keeps table lengths) (σ : List ℕ) wh
   unfolding judged ended
   judges = by (plays-all K σ)
     where
-      by : Ends K σ [] (played table lengths σ) 0 → Judges table lengths σ (told .number)
+      by : PlaysTo K σ [] (played table lengths σ) 0 → Judges table lengths σ (told .number)
       by (through S G v e) = rw v (judges-through v _ _ _ refl refl refl)
       by (refused-at e nay v) = rw v (judges-incomplete 5 (not-complete _ v (λ z. omega arith) (λ z. omega arith)) refl refl)
       by (mismatched-at e st m v) = rw v (judges-disagree 7 (shows-mismatch (e .stands .legal) st m) refl)

@@ -18,23 +18,23 @@ use Rattle.schedules.proofs.Theorems.{decides}
 use Rattle.sheet.specs.Sheet.{sheetOf}
 use Rattle.faults.specs.declared.faults.Fault.{Fault}
 use Rattle.faults.specs.declared.faults.Fault.the-variants.{Reuse, Race}
-use Rattle.verdicts.specs.InOrder.{orElse}
+use Rattle.verdicts.specs.FirstTold.{orElse}
 use Rattle.steps.specs.Going.{played}
 use Rattle.steps.specs.Ending.{judged}
 use Rattle.programs.specs.Program.{program}
 use Rattle.replay.specs.Schedules.{Complete, Agree, Alike}
-use Rattle.verdicts.proofs.InOrder.{or-first, or-second}
+use Rattle.verdicts.proofs.FirstTold.{or-first, or-second}
 use Rattle.replay.proofs.Plays.{clean-through}
 use Rattle.replay.proofs.Judged.{judged-ending}
 use Rattle.programs.proofs.Reaching.{reaches-same}
-use Rattle.rooms.specs.Refusals.{refused}
+use Rattle.rooms.specs.Refusals.{refusal}
 use Rattle.rooms.proofs.Refusals.{Admitted, admitted}
-use Rattle.order.specs.Order.{Reached}
-use Rattle.order.proofs.Reaching.{same-reached}
+use Rattle.happens.specs.HappensBefore.{Reached}
+use Rattle.happens.proofs.Reaching.{same-reached}
 use Rattle.faults.specs.Faults.{faults}
 use Rattle.faults.proofs.Pairs.{same-faults}
 use Rattle.findings.specs.Findings.{faultTold, faultPairs}
-use Rattle.review.specs.Judge.{generations, reaches, verdictOf}
+use Rattle.review.specs.Judge.{generationsBy, reaches, verdictOf}
 use Rattle.review.specs.Agreement.{number, Review, OneFile, OneForAll}
 use Rattle.review.proofs.Rooms.{put-front}
 use Rattle.review.proofs.Judging.{told, judges}
@@ -49,11 +49,11 @@ first-zero a b f s =
 -- ---- the verdict of one schedule
 
 -- what is told past refusals 1 to 4
-past-refusal : (commands lengths σ : List ℕ) (relation room : ℕ) → refused commands lengths relation room .number ≡ 0
+past-refusal : (commands lengths σ : List ℕ) (relation room : ℕ) → refusal commands lengths relation room .number ≡ 0
     → verdictOf commands lengths σ relation room
-    ≡ orElse (judged lengths (played commands lengths σ)) (faultTold commands lengths (generations commands lengths σ) (reaches commands lengths σ))
+    ≡ orElse (judged lengths (played commands lengths σ)) (faultTold commands lengths (generationsBy commands lengths σ) (reaches commands lengths σ))
 unfolding verdictOf
-past-refusal commands lengths σ relation room pass = sym (or-second (refused commands lengths relation room) _ pass)
+past-refusal commands lengths σ relation room pass = sym (or-second (refusal commands lengths relation room) _ pass)
 
 -- a schedule gets 0 or 11, in rooms so long
 pub record Settling (commands lengths σ : List ℕ) (relation room : ℕ) : Type 0 where
@@ -61,10 +61,10 @@ pub record Settling (commands lengths σ : List ℕ) (relation room : ℕ) : Typ
 
 module _ {commands lengths σ : List ℕ} {relation room : ℕ} (S : Settling commands lengths σ relation room) where
   abbrev refusal : Told
-  refusal = refused commands lengths relation room
+  refusal = refusal commands lengths relation room
 
   abbrev faulty : Told
-  faulty = faultTold commands lengths (generations commands lengths σ) (reaches commands lengths σ)
+  faulty = faultTold commands lengths (generationsBy commands lengths σ) (reaches commands lengths σ)
 
   passed : refusal .number ≡ 0
   unfolding verdictOf
@@ -90,7 +90,7 @@ module _ {commands lengths σ : List ℕ} {relation room : ℕ} (S : Settling co
       judged-told ∙ sym (or-second j faulty (first-zero j faulty (ending-unfilled (j .number) (judged-ending (admits .keeps) σ)) settled-told))
 
   -- any other that is legal and complete gets 0 or 11, too, in rooms that pass
-  pub complete-settles : {τ : List ℕ} {relation₂ room₂ : ℕ} → Complete commands lengths τ → refused commands lengths relation₂ room₂ .number ≡ 0
+  pub complete-settles : {τ : List ℕ} {relation₂ room₂ : ℕ} → Complete commands lengths τ → refusal commands lengths relation₂ room₂ .number ≡ 0
       → Settling commands lengths τ relation₂ room₂
   complete-settles {τ} {relation₂} {room₂} c pass =
       let K = admits .keeps in
@@ -104,10 +104,10 @@ module _ {commands lengths σ : List ℕ} {relation room : ℕ} (S : Settling co
 module _ {commands lengths σ τ : List ℕ} {relation room relation₂ room₂ : ℕ} (S : Settling commands lengths σ relation room)
     (T : Settling commands lengths τ relation₂ room₂) where
   abbrev g : ℕ → ℕ
-  g = generations commands lengths σ
+  g = generationsBy commands lengths σ
 
   abbrev h : ℕ → ℕ
-  h = generations commands lengths τ
+  h = generationsBy commands lengths τ
 
   pub one-generations : Alike commands lengths σ τ
   one-generations = agrees S .1 .alike σ τ (agrees S .0) (agrees T .0)
@@ -134,23 +134,23 @@ module _ {commands lengths σ τ : List ℕ} {relation room relation₂ room₂ 
 -- ---- two reviews of one program
 
 module _ {commands lengths : List ℕ} (r : Review commands lengths) (s : settles (number (r .found)) ≡ true) where
-  pub settling : Settling commands lengths (r .schedule) (length (r .relation)) (length (r .room))
+  pub settling : Settling commands lengths (r .schedule) (length (r .relation)) (length (r .generations))
   settling = record { settled = subst (λ (t : Told). settles (t .number) ≡ true) (r .meets .demand₂ .verdict) s }
 
   filled : fills (number (r .found)) ≡ true
   filled = settled-fills (number (r .found)) s
 
-  reached : Reached commands lengths (generations commands lengths (r .schedule)) (r .relation) (r .relation′)
+  reached : Reached commands lengths (generationsBy commands lengths (r .schedule)) (r .relation) (r .relation′)
   reached = r .meets .demand₂ .relation-holds filled
 
-  gens-are : (c : ℕ) → c < rows commands → getD (r .room′) c 0 ≡ generations commands lengths (r .schedule) c
+  gens-are : (c : ℕ) → c < rows commands → getD (r .generations′) c 0 ≡ generationsBy commands lengths (r .schedule) c
   gens-are c l =
       let g = played commands lengths (r .schedule) .generations in
       let A = agrees settling in
       let K = admits settling .keeps in
       let fits : rows commands ≤ length g =
       omega (arith, K .few-rows, clean-through K (r .schedule) (A .1 .clean (r .schedule) (A .0) .through) .gens .long) in
-      ap (λ (l : List ℕ). getD l c 0) (r .meets .demand₂ .room-holds filled) ∙ put-front g (r .room) (rows commands) fits c l
+      ap (λ (l : List ℕ). getD l c 0) (r .meets .demand₂ .generations-hold filled) ∙ put-front g (r .generations) (rows commands) fits c l
 
 module _ {commands lengths : List ℕ} where
   -- how far the rooms are the same is the claim's to say; here it is shown that this is not too far

@@ -23,28 +23,28 @@ use Rattle.findings.specs.declared.finding.Finding.{Finding}
 use Rattle.steps.specs.Going.{played}
 use Rattle.replay.specs.Doors.{Replays}
 use Rattle.steps.specs.Ending.{judged}
-use Rattle.rooms.specs.Refusals.{refused, refusedSizes}
+use Rattle.rooms.specs.Refusals.{refusal, sizeRefusal}
 use Rattle.rooms.specs.Rooms.{numberAt}
-use Rattle.order.specs.Order.{Reached}
-use Rattle.order.specs.Orders.{Orders}
+use Rattle.happens.specs.HappensBefore.{Reached}
+use Rattle.happens.specs.Promise.{PutsHappensBefore}
 use Rattle.faults.specs.Faults.{faults}
 use Rattle.sheet.specs.Sheet.{sheetOf}
 use Rattle.findings.specs.Findings.{firstPair, faultTold, Finds}
-use Rattle.review.specs.Judge.{put, generations, reaches, verdictOf}
+use Rattle.review.specs.Judge.{put, generationsBy, reaches, verdictOf}
 use Rattle.review.specs.Agreement.{number, Judges, Reviewed}
-use Rattle.verdicts.proofs.InOrder.{or-first, or-second}
-use Rattle.replay.proofs.Plays.{Through, clean-through}
+use Rattle.verdicts.proofs.FirstTold.{or-first, or-second}
+use Rattle.replay.proofs.Plays.{PlaysThrough, clean-through}
 use Rattle.replay.proofs.Judged.{judged-ending, clean-verdict}
 use Rattle.review.proofs.Rooms.{put-front, put-beyond}
 use Rattle.rooms.proofs.Refusals.{Admitted, refused-small, admitted, admitted-sizes}
-use Rattle.order.proofs.Reaching.{same-reached, related-reaches}
+use Rattle.happens.proofs.Reaching.{same-reached, related-reaches}
 use Rattle.faults.proofs.Pairs.{same-faults}
 use Rattle.review.proofs.Judging.{told, judges}
 
 -- ---- the numbers of a refusal and of faults
 
-pub refused-refusal : (commands lengths : List ℕ) (relation room : ℕ) → let n = refused commands lengths relation room .number in n ≢ 0 → isRefusal n ≡ true
-refused-refusal commands lengths relation room = few-refusal (refused commands lengths relation room .number) (refused-small commands lengths relation room)
+pub refused-refusal : (commands lengths : List ℕ) (relation room : ℕ) → let n = refusal commands lengths relation room .number in n ≢ 0 → isRefusal n ≡ true
+refused-refusal commands lengths relation room = few-refusal (refusal commands lengths relation room .number) (refused-small commands lengths relation room)
 
 pub fault-fills : (ps qs : List Pair) → fills (firstPair 10 ps (firstPair 11 qs (tell 0 0 0)) .number) ≡ true
 fault-fills (p ∷ ps) qs = refl
@@ -58,7 +58,7 @@ module _ (commands lengths σ relation room : List ℕ) where
   verdicts = verdictOf commands lengths σ (length relation) (length room)
 
   abbrev refusal : Told
-  refusal = refused commands lengths (length relation) (length room)
+  refusal = refusal commands lengths (length relation) (length room)
 
   -- demand 3 follows from the verdict
   third : (v : Verdict) → numbered v ≡ verdicts → refusal ≡ tell 0 0 0 → Judges commands lengths σ (numbered v .number)
@@ -77,12 +77,12 @@ module _ (commands lengths σ relation room : List ℕ) where
               told = t;
               empty = λ _. refl;
               relation-kept = λ _. refl;
-              room-kept = λ _. refl;
+              generations-kept = λ _. refl;
               relation-beyond = λ p h. refl;
-              room-beyond = λ p h. refl;
+              generations-beyond = λ p h. refl;
             };
         demand₂ =
-            record { verdict = e; sheet = λ t. clashing t f; relation-holds = λ t. clashing t f; room-holds = λ t. clashing t f };
+            record { verdict = e; sheet = λ t. clashing t f; relation-holds = λ t. clashing t f; generations-hold = λ t. clashing t f };
         demand₃ = third v e;
       }
 
@@ -112,18 +112,18 @@ module _ (commands lengths σ relation room : List ℕ) where
 
       -- 0, 10 and 11
       module _ (zero : numbered (j .verdict) .number ≡ 0) {v : Verdict} {r : Finding} {relation′ room′ : List ℕ} (put-in : room′ ≡ put (j .generations) (rows commands) room)
-          (long : length room′ ≡ length room) (O : Orders commands lengths room′ relation v relation′) (F : Finds commands lengths room′ relation′ r) where
+          (long : length room′ ≡ length room) (O : PutsHappensBefore commands lengths room′ relation v relation′) (F : Finds commands lengths room′ relation′ r) where
         clean : judged lengths (played commands lengths σ) .number ≡ 0
         clean = ap (λ (t : Told). t .number) (sym (J .verdict)) ∙ zero
 
         is-put : room′ ≡ put (played commands lengths σ .generations) (rows commands) room
         is-put = put-in ∙ ap (λ (g : List ℕ). put g (rows commands) room) (J .generations)
 
-        T : Through (A .keeps) σ
+        T : PlaysThrough (A .keeps) σ
         T = clean-through (A .keeps) σ (clean-verdict lengths (played commands lengths σ) clean)
 
         abbrev g : ℕ → ℕ
-        g = generations commands lengths σ
+        g = generationsBy commands lengths σ
 
         fits : rows commands ≤ length (played commands lengths σ .generations)
         fits = omega (arith, A .keeps .few-rows, T .gens .long)
@@ -131,13 +131,13 @@ module _ (commands lengths σ relation room : List ℕ) where
         same : (c : ℕ) → c < rows commands → numberAt room′ c ≡ g c
         same c l = ap (λ (r : List ℕ). getD r c 0) is-put ∙ put-front (played commands lengths σ .generations) room (rows commands) fits c l
 
-        again : refusedSizes commands (length relation) (length room′) .number ≡ 0
+        again : sizeRefusal commands (length relation) (length room′) .number ≡ 0
         again = rw long (admitted-sizes commands lengths (length relation) (length room) pass)
 
         reached : Reached commands lengths g relation relation′
         reached = same-reached commands lengths (numberAt room′) g same relation relation′ (O .holds (ap (λ (t : Told). t .number) (O .verdict) ∙ again))
 
-        once-more : refusedSizes commands (length relation′) (length room′) .number ≡ 0
+        once-more : sizeRefusal commands (length relation′) (length room′) .number ≡ 0
         once-more = rw (reached .len) again
 
         -- over a room that holds what reaches what, the faults are those over what reaches what
@@ -158,11 +158,11 @@ module _ (commands lengths σ relation room : List ℕ) where
                     told = fills-verdict (number r) f;
                     empty = λ z. clashing f z;
                     relation-kept = λ z. clashing f z;
-                    room-kept = λ z. clashing f z;
+                    generations-kept = λ z. clashing f z;
                     relation-beyond = reached .kept;
-                    room-beyond = λ p h. ap (λ (r : List ℕ). getD r p 0) is-put ∙ put-beyond (played commands lengths σ .generations) room (rows commands) fits p h;
+                    generations-beyond = λ p h. ap (λ (r : List ℕ). getD r p 0) is-put ∙ put-beyond (played commands lengths σ .generations) room (rows commands) fits p h;
                   };
               demand₂ =
-                  record { verdict = q; sheet = λ _. F .sheet ∙ rw (eq-eqb _ 0 once-more, found Reuse, found Race); relation-holds = λ _. reached; room-holds = λ _. is-put };
+                  record { verdict = q; sheet = λ _. F .sheet ∙ rw (eq-eqb _ 0 once-more, found Reuse, found Race); relation-holds = λ _. reached; generations-hold = λ _. is-put };
               demand₃ = third (r .verdict) q;
             }

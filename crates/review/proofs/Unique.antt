@@ -31,12 +31,12 @@ module _ (commands lengths σ relation room : List ℕ) (a b : Finding) {ra ga r
       let u : fills (number b) ≡ true = ap fills (sym same-number) ∙ t in (
         ap₂ (λ (v : Verdict) (s : Sheet). record { verdict = v; sheet = s }) same-verdict (A .demand₂ .sheet t ∙ sym (B .demand₂ .sheet u)),
         holds-one _ _ _ _ _ wa wb (A .demand₂ .relation-holds t) (B .demand₂ .relation-holds u),
-        A .demand₂ .room-holds t ∙ sym (B .demand₂ .room-holds u),
+        A .demand₂ .generations-hold t ∙ sym (B .demand₂ .generations-hold u),
       ))
       (λ (t : fills (number a) ≡ false).
       let u : fills (number b) ≡ false = ap fills (sym same-number) ∙ t in (
         ap₂ (λ (v : Verdict) (s : Sheet). record { verdict = v; sheet = s }) same-verdict (A .demand₁ .empty t ∙ sym (B .demand₁ .empty u)),
         A .demand₁ .relation-kept t ∙ sym (B .demand₁ .relation-kept u),
-        A .demand₁ .room-kept t ∙ sym (B .demand₁ .room-kept u),
+        A .demand₁ .generations-kept t ∙ sym (B .demand₁ .generations-kept u),
       ))
       (split (fills (number a)))

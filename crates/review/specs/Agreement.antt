@@ -12,12 +12,12 @@ use Rattle.relation.specs.Bits.{Words}
 use Rattle.relation.specs.Table.{words}
 use Rattle.findings.specs.declared.finding.Finding.{Finding}
 use Rattle.steps.specs.Going.{played}
-use Rattle.order.specs.Order.{Reached}
+use Rattle.happens.specs.HappensBefore.{Reached}
 use Rattle.sheet.specs.Sheet.{sheetOf}
 use Rattle.faults.specs.Faults.{conflict}
-use Rattle.rooms.specs.Refusals.{refused}
+use Rattle.rooms.specs.Refusals.{refusal}
 use Rattle.findings.specs.Findings.{faultPairs}
-use Rattle.review.specs.Judge.{put, verdictOf, generations, reaches}
+use Rattle.review.specs.Judge.{put, verdictOf, generationsBy, reaches}
 use Rattle.replay.specs.Schedules.{Complete, Agree, InOneOrder, Disagree}
 
 -- the number of a review's verdict
@@ -26,23 +26,23 @@ number r = numbered (r .verdict) .number
 
 -- Demand 1: a verdict for every input. Unless it is 0, 10 or 11, the sheet is empty and the lent rooms keep every number they held; beyond
 -- what they are filled with they keep it always.
-pub record Safe (commands relation room : List ℕ) (r : Finding) (relation′ room′ : List ℕ) : Type 0 where
+pub record Safe (commands relation generations : List ℕ) (r : Finding) (relation′ generations′ : List ℕ) : Type 0 where
   pub told : isVerdict (number r) ≡ true
   pub empty : fills (number r) ≡ false → r .sheet ≡ sheetOf []
   pub relation-kept : fills (number r) ≡ false → relation′ ≡ relation
-  pub room-kept : fills (number r) ≡ false → room′ ≡ room
+  pub generations-kept : fills (number r) ≡ false → generations′ ≡ generations
   pub relation-beyond : (p : ℕ) → words (rows commands) ≤ p → getD relation′ p 0 ≡ getD relation p 0
-  pub room-beyond : (p : ℕ) → rows commands ≤ p → getD room′ p 0 ≡ getD room p 0
+  pub generations-beyond : (p : ℕ) → rows commands ≤ p → getD generations′ p 0 ≡ getD generations p 0
 
 -- Demand 2: the verdict with its place, the pairs, their order and their total, every bit of happens-before, and each generation are those
 -- of the definitions.
-pub record Exact (commands lengths schedule relation room : List ℕ) (r : Finding) (relation′ room′ : List ℕ) : Type 0 where
-  pub verdict : numbered (r .verdict) ≡ verdictOf commands lengths schedule (length relation) (length room)
+pub record Exact (commands lengths schedule relation generations : List ℕ) (r : Finding) (relation′ generations′ : List ℕ) : Type 0 where
+  pub verdict : numbered (r .verdict) ≡ verdictOf commands lengths schedule (length relation) (length generations)
   pub sheet :
       fills (number r) ≡ true
-      → r .sheet ≡ sheetOf (faultPairs commands lengths (generations commands lengths schedule) (reaches commands lengths schedule))
-  pub relation-holds : fills (number r) ≡ true → Reached commands lengths (generations commands lengths schedule) relation relation′
-  pub room-holds : fills (number r) ≡ true → room′ ≡ put (played commands lengths schedule .generations) (rows commands) room
+      → r .sheet ≡ sheetOf (faultPairs commands lengths (generationsBy commands lengths schedule) (reaches commands lengths schedule))
+  pub relation-holds : fills (number r) ≡ true → Reached commands lengths (generationsBy commands lengths schedule) relation relation′
+  pub generations-hold : fills (number r) ≡ true → generations′ ≡ put (played commands lengths schedule .generations) (rows commands) generations
 
 -- Every two conflicting accesses stand in the same order in all legal complete schedules.
 abbrev pub SameOrder : List ℕ → List ℕ → Type 0
@@ -58,10 +58,10 @@ pub record Judges (commands lengths schedule : List ℕ) (n : ℕ) : Type 0 wher
   pub disagreement : disagrees n ≡ true → Disagree commands lengths
 
 -- The contract of `review`. The third holds for tables and rooms that pass refusals 1 to 4.
-pub record Reviewed (commands lengths schedule relation room : List ℕ) (r : Finding) (relation′ room′ : List ℕ) : Type 0 where
-  pub demand₁ : Safe commands relation room r relation′ room′
-  pub demand₂ : Exact commands lengths schedule relation room r relation′ room′
-  pub demand₃ : refused commands lengths (length relation) (length room) ≡ tell 0 0 0 → Judges commands lengths schedule (number r)
+pub record Reviewed (commands lengths schedule relation generations : List ℕ) (r : Finding) (relation′ generations′ : List ℕ) : Type 0 where
+  pub demand₁ : Safe commands relation generations r relation′ generations′
+  pub demand₂ : Exact commands lengths schedule relation generations r relation′ generations′
+  pub demand₃ : refusal commands lengths (length relation) (length generations) ≡ tell 0 0 0 → Judges commands lengths schedule (number r)
 
 -- ---- one program, one file: request 2026-10
 
@@ -70,24 +70,24 @@ pub record Reviewed (commands lengths schedule relation room : List ℕ) (r : Fi
 pub record Review (commands lengths : List ℕ) : Type 0 where
   pub schedule : List ℕ
   pub relation : List ℕ
-  pub room : List ℕ
+  pub generations : List ℕ
   pub found : Finding
   pub relation′ : List ℕ
-  pub room′ : List ℕ
-  pub meets : Reviewed commands lengths schedule relation room found relation′ room′
+  pub generations′ : List ℕ
+  pub meets : Reviewed commands lengths schedule relation generations found relation′ generations′
   pub in-words : Words relation′
 
 -- Two of them leave one file: the same verdict with its places, the same sheet with its total, the same words of the relation, M × ⌈M/32⌉, and the same M
--- generations. Beyond these each room is its owner's, and keeps what it held (`relation-beyond`, `room-beyond` of Safe).
+-- generations. Beyond these each room is its owner's, and keeps what it held (`relation-beyond`, `generations-beyond` of Safe).
 pub record SameFile {commands lengths : List ℕ} (a b : Review commands lengths) : Type 0 where
   pub verdict : numbered (a .found .verdict) ≡ numbered (b .found .verdict)
   pub sheet : a .found .sheet ≡ b .found .sheet
   pub relation : (p : ℕ) → p < words (rows commands) → getD (a .relation′) p 0 ≡ getD (b .relation′) p 0
-  pub generations : (c : ℕ) → c < rows commands → getD (a .room′) c 0 ≡ getD (b .room′) c 0
+  pub generations : (c : ℕ) → c < rows commands → getD (a .generations′) c 0 ≡ getD (b .generations′) c 0
 
 -- its tables and rooms passed refusals 1 to 4
 abbrev pub Unrefused : {commands lengths : List ℕ} → Review commands lengths → Type 0
-Unrefused {commands} {lengths} r = refused commands lengths (length (r .relation)) (length (r .room)) ≡ tell 0 0 0
+Unrefused {commands} {lengths} r = refusal commands lengths (length (r .relation)) (length (r .generations)) ≡ tell 0 0 0
 
 module _ (commands lengths : List ℕ) where
   -- Any two reviews of one program that both end in 0 or 11 leave one file, whatever schedules they were offered and whatever rooms they were lent.

@@ -15,7 +15,7 @@ use Rattle.sheet.specs.declared.Pair.{Pair}
 use Rattle.steps.specs.Going.{played}
 use Rattle.sheet.specs.Sheet.{pair, sheetOf}
 use Rattle.findings.specs.Findings.{faultPairs}
-use Rattle.review.specs.Judge.{verdictOf, generations, reaches}
+use Rattle.review.specs.Judge.{verdictOf, generationsBy, reaches}
 use Rattle.review.specs.Agreement.{number, Review, SameFile, Unrefused}
 
 -- ---- the table
@@ -156,7 +156,7 @@ module _ (e : Example) where
   -- the pairs of the sheet: it is empty outside 0, 10 and 11
   abbrev pub pairsFound : List Pair
   pairsFound =
-      cond (fills (verdictFound .number)) (faultPairs commands lengths (generations commands lengths schedule) (reaches commands lengths schedule)) []
+      cond (fills (verdictFound .number)) (faultPairs commands lengths (generationsBy commands lengths schedule) (reaches commands lengths schedule)) []
 
   abbrev pub generationsFound : List ℕ
   generationsFound = take (rows commands) (played commands lengths schedule .generations)

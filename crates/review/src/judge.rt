@@ -4,7 +4,7 @@ use crate::generations::put_generations;
 use findings::Finding;
 use findings::bare;
 use findings::find_faults;
-use order::put_order;
+use happens::put_happens_before;
 use replay::judge;
 use rooms::refuse;
 
@@ -21,16 +21,16 @@ pub fn review(
         r (now (relation .exit)) (now (generations .exit)) ⌝ }
 {
     let refusal = refuse(commands, lengths, relation.len(), generations.len());
-    if refusal.number().number != 0 {
+    if refusal.told().number != 0 {
         return bare(refusal);
     }
     let judged = judge(commands, lengths, schedule);
     let verdict = judged.verdict;
-    if verdict.number().number != 0 {
+    if verdict.told().number != 0 {
         return bare(verdict);
     }
     let found = judged.generations;
     put_generations(generations, found, commands.len() / 3);
-    put_order(commands, lengths, generations, relation);
+    put_happens_before(commands, lengths, generations, relation);
     find_faults(commands, lengths, generations, relation)
 }

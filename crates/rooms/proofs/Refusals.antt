@@ -12,43 +12,43 @@ use Rattle.verdicts.specs.declared.Told.{Told}
 use Rattle.verdicts.specs.declared.Verdict.{Verdict}
 use Rattle.rules.proofs.Rules.{passes-zero, checked-small, good-commands, whole-commands}
 use Rattle.rules.proofs.Checked.{passed, check-first, check-second}
-use Rattle.verdicts.proofs.InOrder.{or-first, or-second, or-either, or-zero}
+use Rattle.verdicts.proofs.FirstTold.{or-first, or-second, or-either, or-zero}
 use Rattle.relation.specs.Table.{words}
 use Rattle.rooms.specs.Short.{roomOf, firstShort}
-use Rattle.rooms.specs.Refusals.{reviewRooms, refused, refusedSizes}
+use Rattle.rooms.specs.Refusals.{reviewRooms, refusal, sizeRefusal}
 use Rattle.rooms.specs.Rooms.{Ample}
 use Rattle.rooms.proofs.Rooms.{more-long, all-long, first-either, none-either}
 
 -- ---- 1 and 4, of the lengths alone
 
-module _ (commands : List ℕ) (relation generations : ℕ) where
+module _ (commands : List ℕ) (relationLength generationLength : ℕ) where
   abbrev shorts : Told
-  shorts = firstShort (reviewRooms (rows commands) relation generations)
+  shorts = firstShort (reviewRooms (rows commands) relationLength generationLength)
 
-  pub sizes-commands : badCommands commands ≡ true → tell 1 0 0 ≡ refusedSizes commands relation generations
-  unfolding refusedSizes
+  pub sizes-commands : badCommands commands ≡ true → tell 1 0 0 ≡ sizeRefusal commands relationLength generationLength
+  unfolding sizeRefusal
   sizes-commands e = sym (rw e)
 
-  sizes-shorts : badCommands commands ≡ false → shorts ≡ refusedSizes commands relation generations
-  unfolding refusedSizes
+  sizes-shorts : badCommands commands ≡ false → shorts ≡ sizeRefusal commands relationLength generationLength
+  unfolding sizeRefusal
   sizes-shorts e = sym (rw e)
 
   pub sizes-rooms : badCommands commands ≡ false → {w : ℕ} → w ≡ words (rows commands)
-      → firstShort (roomOf 0 w relation ∷ roomOf 1 (rows commands) generations ∷ []) ≡ refusedSizes commands relation generations
+      → firstShort (roomOf 0 w relationLength ∷ roomOf 1 (rows commands) generationLength ∷ []) ≡ sizeRefusal commands relationLength generationLength
   sizes-rooms e w = rw w (sizes-shorts e)
 
   -- what holds of 4 with each digit, and of 0, holds of what is told of the rooms
   shorts-either : (P : Told → Type 0) → P (tell 4 0 0) → P (tell 4 1 0) → P (tell 0 0 0) → P shorts
-  shorts-either P p q z = first-either (roomOf 0 (words (rows commands)) relation) _ P p (first-either (roomOf 1 (rows commands) generations) [] P q (none-either P z))
+  shorts-either P p q z = first-either (roomOf 0 (words (rows commands)) relationLength) _ P p (first-either (roomOf 1 (rows commands) generationLength) [] P q (none-either P z))
 
   -- rooms that are long enough, and rooms that are not told short
-  none-shorts : words (rows commands) ≤ relation → rows commands ≤ generations → tell 0 0 0 ≡ shorts
-  none-shorts r g = sym (more-long (roomOf 0 (words (rows commands)) relation) _ r ∙ more-long (roomOf 1 (rows commands) generations) [] g ∙ none-either (λ (t : Told). t ≡ tell 0 0 0) refl)
+  none-shorts : words (rows commands) ≤ relationLength → rows commands ≤ generationLength → tell 0 0 0 ≡ shorts
+  none-shorts r g = sym (more-long (roomOf 0 (words (rows commands)) relationLength) _ r ∙ more-long (roomOf 1 (rows commands) generationLength) [] g ∙ none-either (λ (t : Told). t ≡ tell 0 0 0) refl)
 
-  long-rooms : shorts .number ≡ 0 → (words (rows commands) ≤ relation) × (rows commands ≤ generations)
+  long-rooms : shorts .number ≡ 0 → (words (rows commands) ≤ relationLength) × (rows commands ≤ generationLength)
   long-rooms e =
-      let r = roomOf 0 (words (rows commands)) relation in
-      let g = roomOf 1 (rows commands) generations in
+      let r = roomOf 0 (words (rows commands)) relationLength in
+      let g = roomOf 1 (rows commands) generationLength in
       let (a, b) = all-long r (g ∷ []) e in
       (a, all-long g [] b .0)
 
@@ -57,8 +57,8 @@ module _ (commands : List ℕ) (relation generations : ℕ) where
   good-sizes false e = refl
 
   -- lengths that are not refused
-  pub ample : refusedSizes commands relation generations .number ≡ 0 → Ample commands relation generations
-  unfolding refusedSizes
+  pub ample : sizeRefusal commands relationLength generationLength .number ≡ 0 → Ample commands relationLength generationLength
+  unfolding sizeRefusal
   ample e =
       let (a, b) = or-zero (cond (badCommands commands) (tell 1 0 0) (tell 0 0 0)) shorts e in
       let (r, g) = long-rooms b in
@@ -68,60 +68,60 @@ module _ (commands : List ℕ) (relation generations : ℕ) where
 
 -- the check of tables said v
 module _ (commands lengths : List ℕ) (v : Verdict) {told : Told} (check : numbered v ≡ checked commands lengths) (said : told ≡ numbered v)
-    (relation generations : ℕ) where
-  pub refuses-tables : told .number ≢ 0 → numbered v ≡ refused commands lengths relation generations
-  unfolding refused
+    (relationLength generationLength : ℕ) where
+  pub refuses-tables : told .number ≢ 0 → numbered v ≡ refusal commands lengths relationLength generationLength
+  unfolding refusal
   refuses-tables n = check-first commands lengths v check said _ n
 
   -- of tables that pass only the rooms can be refused
-  pub refuses-rooms : told .number ≡ 0 → refusedSizes commands relation generations ≡ refused commands lengths relation generations
-  unfolding refused
+  pub refuses-rooms : told .number ≡ 0 → sizeRefusal commands relationLength generationLength ≡ refusal commands lengths relationLength generationLength
+  unfolding refusal
   refuses-rooms e =
       let K = passed commands lengths v check said e in
-      sym (sizes-shorts commands relation generations (good-commands commands (K .whole) (K .few-rows)))
-      ∙ check-second commands lengths v check said (shorts commands relation generations) e
+      sym (sizes-shorts commands relationLength generationLength (good-commands commands (K .whole) (K .few-rows)))
+      ∙ check-second commands lengths v check said (shorts commands relationLength generationLength) e
 
 -- ---- tables and rooms that pass
-pub record Admitted (commands lengths : List ℕ) (relation generations : ℕ) : Type 0 where
+pub record Admitted (commands lengths : List ℕ) (relationLength generationLength : ℕ) : Type 0 where
   pub checks : checked commands lengths .number ≡ 0
   pub keeps : Keeps commands lengths
-  pub relation-fits : words (rows commands) ≤ relation
-  pub generations-fit : rows commands ≤ generations
+  pub relation-fits : words (rows commands) ≤ relationLength
+  pub generations-fit : rows commands ≤ generationLength
 
-module _ (commands lengths : List ℕ) (relation generations : ℕ) where
+module _ (commands lengths : List ℕ) (relationLength generationLength : ℕ) where
   -- 1 to 3, as they are without rooms
-  pub refused-tables : checked commands lengths .number ≢ 0 → checked commands lengths ≡ refused commands lengths relation generations
-  unfolding refused
-  refused-tables n = or-first (checked commands lengths) (shorts commands relation generations) n
+  pub refused-tables : checked commands lengths .number ≢ 0 → checked commands lengths ≡ refusal commands lengths relationLength generationLength
+  unfolding refusal
+  refused-tables n = or-first (checked commands lengths) (shorts commands relationLength generationLength) n
 
   -- tables and rooms that pass
-  pub refused-none : checked commands lengths .number ≡ 0 → words (rows commands) ≤ relation → rows commands ≤ generations
-      → tell 0 0 0 ≡ refused commands lengths relation generations
-  unfolding refused
-  refused-none e r g = none-shorts commands relation generations r g ∙ or-second (checked commands lengths) (shorts commands relation generations) e
+  pub refused-none : checked commands lengths .number ≡ 0 → words (rows commands) ≤ relationLength → rows commands ≤ generationLength
+      → tell 0 0 0 ≡ refusal commands lengths relationLength generationLength
+  unfolding refusal
+  refused-none e r g = none-shorts commands relationLength generationLength r g ∙ or-second (checked commands lengths) (shorts commands relationLength generationLength) e
 
   -- what holds of 1 to 3, of 4 with each digit, and of 0, holds of what is told
   pub refused-either : (P : Told → Type 0) → P (checked commands lengths) → P (tell 4 0 0) → P (tell 4 1 0) → P (tell 0 0 0)
-      → P (refused commands lengths relation generations)
-  unfolding refused
+      → P (refusal commands lengths relationLength generationLength)
+  unfolding refusal
   refused-either P c p q z =
-      or-either P (checked commands lengths) (shorts commands relation generations) c (λ _. shorts-either commands relation generations P p q z)
+      or-either P (checked commands lengths) (shorts commands relationLength generationLength) c (λ _. shorts-either commands relationLength generationLength P p q z)
 
-  pub refused-small : refused commands lengths relation generations .number ≤ 4
+  pub refused-small : refusal commands lengths relationLength generationLength .number ≤ 4
   refused-small = refused-either (λ (t : Told). t .number ≤ 4) (omega (arith, checked-small commands lengths)) (omega arith) (omega arith) (omega arith)
 
-  module _ (e : refused commands lengths relation generations .number ≡ 0) where
-    pub admitted : Admitted commands lengths relation generations
-    unfolding refused
+  module _ (e : refusal commands lengths relationLength generationLength .number ≡ 0) where
+    pub admitted : Admitted commands lengths relationLength generationLength
+    unfolding refusal
     admitted =
-        let (a, b) = or-zero (checked commands lengths) (shorts commands relation generations) e in
-        let (r, g) = long-rooms commands relation generations b in
+        let (a, b) = or-zero (checked commands lengths) (shorts commands relationLength generationLength) e in
+        let (r, g) = long-rooms commands relationLength generationLength b in
         record { checks = a; keeps = passes-zero commands lengths a; relation-fits = r; generations-fit = g }
 
     -- nor are their lengths refused
-    pub admitted-sizes : refusedSizes commands relation generations .number ≡ 0
-    unfolding refused
+    pub admitted-sizes : sizeRefusal commands relationLength generationLength .number ≡ 0
+    unfolding refusal
     admitted-sizes =
         let K = admitted .keeps in
-        let (_, b) = or-zero (checked commands lengths) (shorts commands relation generations) e in
-        rw (← sizes-shorts commands relation generations (good-commands commands (K .whole) (K .few-rows))) b
+        let (_, b) = or-zero (checked commands lengths) (shorts commands relationLength generationLength) e in
+        rw (← sizes-shorts commands relationLength generationLength (good-commands commands (K .whole) (K .few-rows))) b

@@ -10,9 +10,9 @@ use lib.ListN.{length, getD, drop}
 use lib.Seq.{drop-cons, drop-length}
 use borrow.Author.Tests.{lt-ltb, le-ltb, ltb-false}
 use Rattle.verdicts.specs.Verdicts.{tell}
-use Rattle.verdicts.specs.InOrder.{orElse}
+use Rattle.verdicts.specs.FirstTold.{orElse}
 use Rattle.verdicts.specs.declared.Told.{Told}
-use Rattle.verdicts.proofs.InOrder.{or-zero, or-assoc}
+use Rattle.verdicts.proofs.FirstTold.{or-zero, or-assoc}
 use Rattle.rooms.specs.Short.{digitOf, neededOf, givenOf, short, firstShort}
 
 -- ---- one room

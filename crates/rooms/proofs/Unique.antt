@@ -8,18 +8,18 @@ use Rattle.verdicts.specs.Verdicts.{numbered}
 use Rattle.verdicts.specs.declared.Verdict.{Verdict}
 use Rattle.verdicts.proofs.Verdicts.{numbered-one}
 use Rattle.rooms.specs.Short.{firstShort}
-use Rattle.rooms.specs.Refusals.{refused, refusedSizes}
+use Rattle.rooms.specs.Refusals.{refusal, sizeRefusal}
 
-pub refuse-one : (commands lengths : List ℕ) (relation generations : ℕ) (a b : Verdict) → numbered a ≡ refused commands lengths relation generations
-    → numbered b ≡ refused commands lengths relation generations → a ≡ b
+pub refuse-one : (commands lengths : List ℕ) (relation generations : ℕ) (a b : Verdict) → numbered a ≡ refusal commands lengths relation generations
+    → numbered b ≡ refusal commands lengths relation generations → a ≡ b
 refuse-one commands lengths relation generations a b A B = numbered-one a b (A ∙ sym B)
 
-pub admits-one : (commands lengths : List ℕ) (relation generations : ℕ) (a b : Bool) → a ≡ eqb (refused commands lengths relation generations .number) 0
-    → b ≡ eqb (refused commands lengths relation generations .number) 0 → a ≡ b
+pub admits-one : (commands lengths : List ℕ) (relation generations : ℕ) (a b : Bool) → a ≡ eqb (refusal commands lengths relation generations .number) 0
+    → b ≡ eqb (refusal commands lengths relation generations .number) 0 → a ≡ b
 admits-one commands lengths relation generations a b A B = A ∙ sym B
 
-pub refuse-sizes-one : (commands : List ℕ) (relation generations : ℕ) (a b : Verdict) → numbered a ≡ refusedSizes commands relation generations
-    → numbered b ≡ refusedSizes commands relation generations → a ≡ b
+pub refuse-sizes-one : (commands : List ℕ) (relation generations : ℕ) (a b : Verdict) → numbered a ≡ sizeRefusal commands relation generations
+    → numbered b ≡ sizeRefusal commands relation generations → a ≡ b
 refuse-sizes-one commands relation generations a b A B = numbered-one a b (A ∙ sym B)
 
 pub short-room-one : (rooms : List (List ℕ)) (a b : Verdict) → numbered a ≡ firstShort rooms → numbered b ≡ firstShort rooms → a ≡ b

@@ -5,20 +5,20 @@ use Prim.Native.Nat.{ℕ}
 use Rattle.tables.specs.Rows.{rows}
 use Rattle.rules.specs.Rules.{badCommands, checked}
 use Rattle.verdicts.specs.Verdicts.{tell}
-use Rattle.verdicts.specs.InOrder.{orElse}
+use Rattle.verdicts.specs.FirstTold.{orElse}
 use Rattle.verdicts.specs.declared.Told.{Told}
 use Rattle.relation.specs.Table.{words}
 use Rattle.rooms.specs.Short.{roomOf, firstShort}
 
 -- the rooms of a review, the lowest digit first: the relation room (0) and the generation room (1)
-abbrev pub reviewRooms : (m relation generations : ℕ) → List (List ℕ)
-reviewRooms m relation generations = roomOf 0 (words m) relation ∷ roomOf 1 m generations ∷ []
+abbrev pub reviewRooms : (m relationLength generationLength : ℕ) → List (List ℕ)
+reviewRooms m relationLength generationLength = roomOf 0 (words m) relationLength ∷ roomOf 1 m generationLength ∷ []
 
 -- 1 to 4, of tables and the lengths of the two rooms
-unfoldable pub refused : List ℕ → List ℕ → (relation generations : ℕ) → Told
-refused commands lengths relation generations = orElse (checked commands lengths) (firstShort (reviewRooms (rows commands) relation generations))
+unfoldable pub refusal : List ℕ → List ℕ → (relationLength generationLength : ℕ) → Told
+refusal commands lengths relationLength generationLength = orElse (checked commands lengths) (firstShort (reviewRooms (rows commands) relationLength generationLength))
 
 -- 1 and 4, of how many numbers there are in the commands and in the two rooms: what stands in them is not looked at
-unfoldable pub refusedSizes : List ℕ → (relation generations : ℕ) → Told
-refusedSizes commands relation generations =
-    orElse (cond (badCommands commands) (tell 1 0 0) (tell 0 0 0)) (firstShort (reviewRooms (rows commands) relation generations))
+unfoldable pub sizeRefusal : List ℕ → (relationLength generationLength : ℕ) → Told
+sizeRefusal commands relationLength generationLength =
+    orElse (cond (badCommands commands) (tell 1 0 0) (tell 0 0 0)) (firstShort (reviewRooms (rows commands) relationLength generationLength))

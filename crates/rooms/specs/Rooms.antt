@@ -25,10 +25,10 @@ pub record TwoCommands (commands generations : List ℕ) (i j : ℕ) : Type 0 wh
   pub whole : rows commands ≤ length generations
 
 -- there are few rows, and rooms so long have room for their relation and generations
-pub record Ample (commands : List ℕ) (relation generations : ℕ) : Type 0 where
+pub record Ample (commands : List ℕ) (relationLength generationLength : ℕ) : Type 0 where
   pub few-rows : rows commands ≤ mostRows
-  pub relation-fits : words (rows commands) ≤ relation
-  pub generations-fit : rows commands ≤ generations
+  pub relation-fits : words (rows commands) ≤ relationLength
+  pub generations-fit : rows commands ≤ generationLength
 
 -- there is room for the generations and the relation of tables that pass
 pub record Roomy (commands lengths generations relation : List ℕ) : Type 0 where

@@ -5,7 +5,7 @@ use Prim.Native.Nat.{ℕ}
 use lib.Dec.{ltb}
 use lib.ListN.{getD}
 use Rattle.verdicts.specs.declared.Told.{Told}
-use Rattle.verdicts.specs.InOrder.{orElse}
+use Rattle.verdicts.specs.FirstTold.{orElse}
 use Rattle.verdicts.specs.Verdicts.{tell}
 
 -- a room as three numbers: its digit, the length that is needed, and the length that was given

@@ -2,7 +2,7 @@
 ghost use mathlib.Core.Path.{_≡_};
 ghost use lib.Dec.{eqb};
 ghost use Rattle.verdicts.specs.Verdicts.{numbered};
-ghost use Rattle.rooms.specs.Refusals.{refused, refusedSizes};
+ghost use Rattle.rooms.specs.Refusals.{refusal, sizeRefusal};
 use crate::short::short_room;
 use relation::table_words;
 use rules::bad_commands;
@@ -10,33 +10,43 @@ use rules::check_tables;
 use verdicts::Verdict;
 
 // 1 and 4, or 0, of the lengths alone: no table is gone through.
-pub fn refuse_sizes(commands: &[u32], relation: usize, generations: usize) -> Verdict
-    ensures { λ r. ⌜ numbered r ≡ refusedSizes (now (commands .entry)) relation generations ⌝ }
+pub fn refuse_sizes(commands: &[u32], relation_len: usize, generation_len: usize) -> Verdict
+    ensures { λ r. ⌜ numbered r ≡ sizeRefusal (now (commands .entry)) relation_len generation_len ⌝ }
 {
     if bad_commands(commands) {
         return Verdict::BadCommands;
     }
     let m = commands.len() / 3;
-    short_room(&[[0, table_words(m as u32), relation], [1, m, generations]])
+    short_room(
+        &[
+            [0, table_words(m as u32), relation_len],
+            [1, m, generation_len],
+        ],
+    )
 }
 
 // 1 to 4, or 0, of tables and the lengths of the two rooms.
-pub fn refuse(commands: &[u32], lengths: &[u32], relation: usize, generations: usize) -> Verdict
-    ensures { λ r. ⌜ numbered r ≡ refused (now (commands .entry)) (now (lengths .entry)) relation generations ⌝ }
+pub fn refuse(
+    commands: &[u32],
+    lengths: &[u32],
+    relation_len: usize,
+    generation_len: usize,
+) -> Verdict
+    ensures { λ r. ⌜ numbered r ≡ refusal (now (commands .entry)) (now (lengths .entry)) relation_len generation_len ⌝ }
 {
     let verdict = check_tables(commands, lengths);
-    if verdict.number().number != 0 {
+    if verdict.told().number != 0 {
         return verdict;
     }
-    refuse_sizes(commands, relation, generations)
+    refuse_sizes(commands, relation_len, generation_len)
 }
 
 // Are tables and rooms admitted, which is to say not refused? Callers that only go on, or not, are spared the verdict.
-pub fn admits(commands: &[u32], lengths: &[u32], relation: usize, generations: usize) -> bool
-    ensures { λ r. ⌜ r ≡ eqb (refused (now (commands .entry)) (now (lengths .entry)) relation generations .number) 0 ⌝ }
+pub fn admits(commands: &[u32], lengths: &[u32], relation_len: usize, generation_len: usize) -> bool
+    ensures { λ r. ⌜ r ≡ eqb (refusal (now (commands .entry)) (now (lengths .entry)) relation_len generation_len .number) 0 ⌝ }
 {
-    refuse(commands, lengths, relation, generations)
-        .number()
+    refuse(commands, lengths, relation_len, generation_len)
+        .told()
         .number
         == 0
 }

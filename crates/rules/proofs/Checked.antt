@@ -6,9 +6,9 @@ use Prim.Native.Nat.{ℕ}
 use Rattle.verdicts.specs.declared.Told.{Told}
 use Rattle.verdicts.specs.declared.Verdict.{Verdict}
 use Rattle.verdicts.specs.Verdicts.{numbered}
-use Rattle.verdicts.specs.InOrder.{orElse}
+use Rattle.verdicts.specs.FirstTold.{orElse}
 use Rattle.verdicts.proofs.Verdicts.{zero-told}
-use Rattle.verdicts.proofs.InOrder.{or-first, or-second, number-is}
+use Rattle.verdicts.proofs.FirstTold.{or-first, or-second, number-is}
 use Rattle.rules.specs.Rules.{Keeps, checked}
 use Rattle.rules.proofs.Rules.{passes}
 

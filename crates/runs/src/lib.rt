@@ -7,8 +7,8 @@ ghost use Rattle.runs.specs.Run.{KernelTold, tellRun, runKernel, RunsKer
 use kernels::Kernel;
 use kernels::ruling;
 use machine::Stack;
-use machine::start;
-use machine::step;
+use machine::start_warp;
+use machine::step_warp;
 
 // How a run ends.
 pub struct Ending;
@@ -48,7 +48,7 @@ fn run_from(code: &[u32], expressions: &[u32], lanes: u32, cells: &mut [u32], st
         (tellRun (runKernel (now (code .entry)) (now (expressions .entry)) lanes steps (now (cells .entry)))) ⌝ }
 {
     let mut stack = [0u64; Stack::ROOM];
-    let mut stand = start(code, lanes, &mut stack);
+    let mut stand = start_warp(code, lanes, &mut stack);
     let mut taken = 0u64;
     while stand.height > 0 {
         if taken == steps {
@@ -57,7 +57,7 @@ fn run_from(code: &[u32], expressions: &[u32], lanes: u32, cells: &mut [u32], st
         if Stack::ENTRIES < stand.height {
             return ended(Ending::WOULD_OVERFILL, taken);
         }
-        stand = step(code, expressions, stand, &mut stack, cells);
+        stand = step_warp(code, expressions, stand, &mut stack, cells);
         if stand.height > Stack::ENTRIES {
             return ended(Ending::WOULD_OVERFILL, taken);
         }

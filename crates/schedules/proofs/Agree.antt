@@ -9,7 +9,7 @@ use native.Mathlib.Decide.{ℕ-discrete, decLe}
 use Rattle.relation.specs.Chains.{here, goes}
 use Rattle.relation.proofs.Truth.{clashing, split}
 use Rattle.schedules.specs.Machine.{Program, Lawful, State, Member, member, registered, Matches, next, state, Ready}
-use Rattle.schedules.specs.Order.{Edge, along, meets, Reaches, NoReuse}
+use Rattle.schedules.specs.HappensBefore.{Edge, along, meets, Reaches, NoReuse}
 use Rattle.schedules.proofs.Tally.{tally-le, tally-full}
 use Rattle.schedules.proofs.Logs.{Allowed, LegalLog}
 use Rattle.schedules.proofs.Step.{member-in, member-out, ran-other, ran-kept, gen-same, gen-idle, gen-other}

@@ -7,7 +7,7 @@ use Prim.Native.Nat.{ℕ}
 use native.Mathlib.Decide.{ℕ-discrete}
 use Rattle.relation.proofs.Truth.{clashing}
 use Rattle.schedules.specs.Machine.{Program, state}
-use Rattle.schedules.specs.Order.{Goes, stays, more}
+use Rattle.schedules.specs.HappensBefore.{Goes, stays, more}
 use Rattle.schedules.proofs.Logs.{LegalLog}
 use Rattle.schedules.proofs.Step.{ran-other, ran-kept, gen-other}
 

@@ -7,7 +7,7 @@ use Prim.Native.Nat.{ℕ, _<_}
 use native.Mathlib.Decide.{ℕ-discrete}
 use Rattle.relation.proofs.Truth.{clashing, split, isnt}
 use Rattle.schedules.specs.Machine.{Program, Lawful, State, state}
-use Rattle.schedules.specs.Order.{Reaches, Reuse, NoReuse}
+use Rattle.schedules.specs.HappensBefore.{Reaches, Reuse, NoReuse}
 use Rattle.schedules.proofs.Tally.{find}
 use Rattle.schedules.proofs.Logs.{Allowed, LegalLog, CleanLog}
 use Rattle.schedules.proofs.Good.{good}

@@ -7,8 +7,8 @@ use Prim.Native.Nat.{ℕ, zero, suc, _≤_, _<_}
 use native.Mathlib.Omega.{arith}
 use Rattle.schedules.specs.Tally.{tally}
 use Rattle.schedules.specs.Machine.{Program, Lawful, Mismatch, Matches, state}
-use Rattle.schedules.specs.Threads.{Threads, at, commands, after, Steps, Legal, Complete, stopped, mismatched}
-use Rattle.schedules.specs.Order.{Goes, stays, more}
+use Rattle.schedules.specs.Threads.{Threads, at, logOf, after, Steps, Legal, Complete, stopped, mismatched}
+use Rattle.schedules.specs.HappensBefore.{Goes, stays, more}
 use Rattle.schedules.specs.Claims.{Completes}
 use Rattle.schedules.proofs.Tally.{tally-one, find}
 use Rattle.schedules.proofs.Logs.{Allowed}
@@ -29,7 +29,7 @@ module _ {P : Program} (W : Lawful P) (H : Threads P) where
   waiting υ x = not (after P H υ .ran x)
 
   one-less : (υ : List ℕ) → Legal P H υ → (t : ℕ) → Steps P H υ t → tally size (waiting υ) ≡ suc (tally size (waiting (t ∷ υ)))
-  unfolding waiting commands state
+  unfolding waiting logOf state
   one-less υ h t st =
       let s = after P H υ in
       let c = at P H υ t in

@@ -8,7 +8,7 @@ use native.Mathlib.Decide.{ℕ-discrete}
 use Rattle.relation.specs.Chains.{goes}
 use Rattle.relation.proofs.Truth.{clashing, split, isnt}
 use Rattle.schedules.specs.Machine.{Program, Lawful, State, Mismatch, Matches, state, Ready}
-use Rattle.schedules.specs.Order.{Edge, along, Reaches, reach}
+use Rattle.schedules.specs.HappensBefore.{Edge, along, Reaches, reach}
 use Rattle.schedules.proofs.Logs.{Allowed, LegalLog, CleanLog}
 use Rattle.schedules.proofs.Step.{ran-same, ran-other, ran-kept, gen-other}
 use Rattle.schedules.proofs.Good.{good}
@@ -23,7 +23,7 @@ pub data Strays (P : Program) (g : ℕ → ℕ) : Type 0 where
   differs : (τ : List ℕ) → LegalLog P τ → (x : ℕ) → state P τ .ran x ≡ true → state P τ .gen x ≢ g x → Strays P g
 
 -- a legal log of S's generations that has run just those of l that are in D
-pub record Part (P : Program) (S : State) (D : ℕ → Bool) (l : List ℕ) : Type 0 where
+pub record CutOff (P : Program) (S : State) (D : ℕ → Bool) (l : List ℕ) : Type 0 where
   pub log : List ℕ
   pub legal : LegalLog P log
   pub agrees : Agrees P S (state P log)
@@ -52,7 +52,7 @@ module _ {P : Program} (W : Lawful P) {S : State} (F : Final P S) where
   -- D has, with each command, those that have an edge to it
   module _ (D : ℕ → Bool) (shut : (y z : ℕ) → Edge P (S .gen) y z → D z ≡ true → D y ≡ true) where
     -- where the command before c is ready in l and in D, c is allowed in the part
-    allowed-in : (l : List ℕ) → Agrees P S (state P l) → (K : Part P S D l) → (c : ℕ) → c < size → state P (K .log) .ran c ≡ false
+    allowed-in : (l : List ℕ) → Agrees P S (state P l) → (K : CutOff P S D l) → (c : ℕ) → c < size → state P (K .log) .ran c ≡ false
         → ((y : ℕ) → c ≡ suc y → first c ≡ false → Ready P (state P l) y × (D y ≡ true)) → Allowed P (state P (K .log)) c
     allowed-in l E K c low fresh ready =
         record {
@@ -64,11 +64,11 @@ module _ {P : Program} (W : Lawful P) {S : State} (F : Final P S) where
               carry W F E (K .agrees) y r (K .all y (r .run) d) (λ x edge ran. K .all x ran (shut x y edge d));
         }
 
-    pub part : (l : List ℕ) → LegalLog P l → Same S (state P l) → Strays P (S .gen) ⊎ Part P S D l
+    pub part : (l : List ℕ) → LegalLog P l → Same S (state P l) → Strays P (S .gen) ⊎ CutOff P S D l
     unfolding state
     part [] h same =
         inr (record { log = []; legal = tt; agrees = record { good = good W [] tt; same = same }; only = λ x e. clashing e refl; all = λ x e. clashing e refl })
-    part (c ∷ l) h same = ⊎-elim inl (λ (K : Part P S D l). go K (split (D c))) (part l (h .0) (E .same))
+    part (c ∷ l) h same = ⊎-elim inl (λ (K : CutOff P S D l). go K (split (D c))) (part l (h .0) (E .same))
       where
         s : State
         s = state P l
@@ -79,7 +79,7 @@ module _ {P : Program} (W : Lawful P) {S : State} (F : Final P S) where
         A : Allowed P s c
         A = h .1
 
-        longer : (K : Part P S D l) → D c ≡ true → LegalLog P (c ∷ K .log) × Agrees P S (state P (c ∷ K .log)) → Part P S D (c ∷ l)
+        longer : (K : CutOff P S D l) → D c ≡ true → LegalLog P (c ∷ K .log) × Agrees P S (state P (c ∷ K .log)) → CutOff P S D (c ∷ l)
         longer K d w =
             let t = state P (K .log) in
             record {
@@ -92,7 +92,7 @@ module _ {P : Program} (W : Lawful P) {S : State} (F : Final P S) where
                   (λ (n : c ≢ x). ran-kept P t c x (K .all x (sym (ran-other P s c x n) ∙ e) dx));
             }
 
-        go : Part P S D l → (D c ≡ true) ⊎ (D c ≡ false) → Strays P (S .gen) ⊎ Part P S D (c ∷ l)
+        go : CutOff P S D l → (D c ≡ true) ⊎ (D c ≡ false) → Strays P (S .gen) ⊎ CutOff P S D (c ∷ l)
         go K (inl d) =
             ⊎-elim inl (λ w. inr (longer K d w))
             (try (K .log) (K .legal) (K .agrees) (allowed-in l E K c (A .low) (isnt _ (λ t. clashing (K .only c t .0) (A .fresh)))
@@ -129,5 +129,5 @@ module _ {P : Program} (W : Lawful P) {σ : List ℕ} (C : CleanLog P σ) {c : �
       apart-in low ly (λ p. apart-out low lz h (goes p e))
 
   -- σ without what c reaches
-  pub cut : Strays P g ⊎ Part P (state P σ) (apart P g c) σ
+  pub cut : Strays P g ⊎ CutOff P (state P σ) (apart P g c) σ
   cut = part W (final W C) (apart P g c) shut σ (C .legal) (λ x e. refl)

@@ -8,7 +8,7 @@ use native.Mathlib.Omega.{arith}
 use native.Mathlib.Decide.{ℕ-discrete, decLe, map-dec}
 use Rattle.relation.proofs.Truth.{clashing, split}
 use Rattle.schedules.specs.Machine.{Program}
-use Rattle.schedules.specs.Order.{Reaches, reach, Succeeds, Waits, Reuse}
+use Rattle.schedules.specs.HappensBefore.{Reaches, reach, Succeeds, Waits, Reuse}
 use Rattle.schedules.specs.Claims.{Decided}
 use Rattle.schedules.proofs.Tally.{find}
 use Rattle.schedules.proofs.Table.{decides}

@@ -7,7 +7,7 @@ use Prim.Native.Nat.{ℕ, _<_}
 use Rattle.relation.specs.Chains.{here, goes}
 use Rattle.relation.proofs.Truth.{clashing, split, isnt}
 use Rattle.schedules.specs.Machine.{Program, Lawful, state}
-use Rattle.schedules.specs.Order.{Edge, along, meets, Reaches, NoReuse, Goes, Before}
+use Rattle.schedules.specs.HappensBefore.{Edge, along, meets, Reaches, NoReuse, Goes, Before}
 use Rattle.schedules.proofs.Logs.{Allowed, LegalLog, CleanLog}
 use Rattle.schedules.proofs.Step.{ran-same, ran-other}
 use Rattle.schedules.proofs.Tests.{not-matching}
@@ -15,7 +15,7 @@ use Rattle.schedules.proofs.Along.{first-more, nested, legal-then, ran-
 use Rattle.schedules.proofs.Final.{final}
 use Rattle.schedules.proofs.Agree.{past}
 use Rattle.schedules.proofs.Sound.{agrees, fits}
-use Rattle.schedules.proofs.Cut.{Strays, faults, differs, Part, apart, apart-in, apart-out, cut}
+use Rattle.schedules.proofs.Cut.{Strays, faults, differs, CutOff, apart, apart-in, apart-out, cut}
 
 -- ---- two commands of one log
 
@@ -69,6 +69,6 @@ module _ {P : Program} (W : Lawful P) {σ : List ℕ} (C : CleanLog P σ) (none 
   pub without : (x y : ℕ) → x < size → y < size → ¬ Reaches P g y x → (l : List ℕ) × LegalLog P l × (state P l .ran x ≡ true) × (state P l .ran y ≡ false)
   without x y lx ly n = ⊎-elim (λ d. absurd (keeps d)) from (cut W C ly)
     where
-      from : Part P (state P σ) (apart P g y) σ → (l : List ℕ) × LegalLog P l × (state P l .ran x ≡ true) × (state P l .ran y ≡ false)
+      from : CutOff P (state P σ) (apart P g y) σ → (l : List ℕ) × LegalLog P l × (state P l .ran x ≡ true) × (state P l .ran y ≡ false)
       from K =
           (K .log, K .legal, K .all x (final W C .all x lx) (apart-in ly lx n), isnt _ (λ t. apart-out ly ly (K .only y t .1) here))

@@ -8,12 +8,12 @@ use native.Mathlib.Omega.{arith}
 use Rattle.relation.specs.Chains.{here}
 use Rattle.relation.proofs.Truth.{isnt}
 use Rattle.schedules.specs.Machine.{Program, Lawful, State, state}
-use Rattle.schedules.specs.Order.{Reaches, Reuse}
+use Rattle.schedules.specs.HappensBefore.{Reaches, Reuse}
 use Rattle.schedules.proofs.Logs.{LegalLog, CleanLog}
 use Rattle.schedules.proofs.Step.{ran-same, gen-same}
 use Rattle.schedules.proofs.Final.{Final, final}
 use Rattle.schedules.proofs.Agree.{Agrees}
-use Rattle.schedules.proofs.Cut.{Strays, Part, try, apart, apart-in, apart-out, cut}
+use Rattle.schedules.proofs.Cut.{Strays, CutOff, try, apart, apart-in, apart-out, cut}
 use Rattle.schedules.proofs.Soon.{behind, soon}
 
 module _ {P : Program} (W : Lawful P) {σ : List ℕ} (C : CleanLog P σ) {c₁ c₂ : ℕ} (R : Reuse P (state P σ .gen) c₁ c₂) where
@@ -26,7 +26,7 @@ module _ {P : Program} (W : Lawful P) {σ : List ℕ} (C : CleanLog P σ) {c₁ 
   low₁ : c₁ < P .size
   low₁ = R .succeeds .low₁
 
-  early : Part P S (apart P (S .gen) c₁) σ → Strays P (S .gen)
+  early : CutOff P S (apart P (S .gen) c₁) σ → Strays P (S .gen)
   unfolding state
   early K =
       let T = state P (K .log) in

@@ -6,7 +6,7 @@ use mathlib.Core.List.{List}
 use Prim.Native.Nat.{ℕ, _<_}
 use Rattle.relation.proofs.Truth.{clashing}
 use Rattle.schedules.specs.Machine.{Program, Lawful}
-use Rattle.schedules.specs.Threads.{Threads, commands, after, gens, Legal, Complete, stopped, mismatched, Clean}
+use Rattle.schedules.specs.Threads.{Threads, logOf, after, gens, Legal, Complete, stopped, mismatched, Clean}
 use Rattle.schedules.proofs.Logs.{Allowed}
 use Rattle.schedules.proofs.Tests.{not-matching}
 use Rattle.schedules.proofs.Along.{gen-then}
@@ -35,16 +35,16 @@ module _ {P : Program} (W : Lawful P) (H : Threads P) where
       go : (¬ Clean P H τ) ⊎ Legal P H τ → (¬ Clean P H τ) ⊎ ((x : ℕ) × (x < size) × (gens P H τ x ≢ gens P H σ x))
       go (inl n) = inl n
       go (inr L) =
-          let (x, lx, ran, n) = astray W (clean-log H W C) (R .succeeds .low₁) Q (commands P H υ) (D .only) (drained D) R (legal-log H υ (D .legal)) in
+          let (x, lx, ran, n) = astray W (clean-log H W C) (R .succeeds .low₁) Q (logOf P H υ) (D .only) (drained D) R (legal-log H υ (D .legal)) in
           inr (x, lx, λ q. n (sym (gen-then P (goes-commands H r) (legal-log H τ L) x ran) ∙ q))
 
   pub shows-first : ShowsFirst P H
   shows-first σ F x y lx ly n E Q υ D τ r K =
       let C = clean-log H W (F .clean) in
       record {
-        part = commands P H υ;
+        part = logOf P H υ;
         goes-on = goes-commands H r;
-        sooner = first-of W C ly Q (commands P H υ) (D .only) (drained D) (F .none) (legal-log H υ (D .legal)) x lx n;
-        later = not-c W C ly Q (commands P H υ) (D .only) (drained D);
+        sooner = first-of W C ly Q (logOf P H υ) (D .only) (drained D) (F .none) (legal-log H υ (D .legal)) x lx n;
+        later = not-c W C ly Q (logOf P H υ) (D .only) (drained D);
         at-last = all-ran W H τ (sound W H σ F τ K .0) y ly;
       }

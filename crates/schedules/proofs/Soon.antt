@@ -10,7 +10,7 @@ use native.Mathlib.Decide.{decLe}
 use Rattle.relation.specs.Chains.{goes}
 use Rattle.relation.proofs.Truth.{clashing, isnt}
 use Rattle.schedules.specs.Machine.{Program, Lawful, State, Member, state, Ready}
-use Rattle.schedules.specs.Order.{Reaches, Reuse}
+use Rattle.schedules.specs.HappensBefore.{Reaches, Reuse}
 use Rattle.schedules.proofs.Logs.{Allowed, CleanLog}
 use Rattle.schedules.proofs.Good.{lacking}
 use Rattle.schedules.proofs.Final.{Final, final}

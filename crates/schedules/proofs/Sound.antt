@@ -5,7 +5,7 @@ use mathlib.Core.List.{List, [], _∷_}
 use Prim.Native.Nat.{ℕ, _<_}
 use Rattle.relation.proofs.Truth.{clashing}
 use Rattle.schedules.specs.Machine.{Program, Lawful, Matches, state}
-use Rattle.schedules.specs.Order.{NoReuse}
+use Rattle.schedules.specs.HappensBefore.{NoReuse}
 use Rattle.schedules.proofs.Logs.{Allowed, LegalLog, StopsLog, CleanLog}
 use Rattle.schedules.proofs.Good.{good}
 use Rattle.schedules.proofs.Final.{Final, final, clean-of}

@@ -10,7 +10,7 @@ use Rattle.relation.specs.Chains.{On}
 use Rattle.relation.proofs.Truth.{both, pair, either, left, right}
 use Rattle.relation.proofs.Chains.{reach-map, decides-reach}
 use Rattle.schedules.specs.Machine.{Program}
-use Rattle.schedules.specs.Order.{Edge, along, meets, edge, reach}
+use Rattle.schedules.specs.HappensBefore.{Edge, along, meets, edge, reach}
 use Rattle.schedules.specs.Claims.{Decides}
 
 pub edge-low : {P : Program} {g : ℕ → ℕ} {y z : ℕ} → Edge P g y z → (y < P .size) × (z < P .size)

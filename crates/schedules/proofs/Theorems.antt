@@ -7,9 +7,9 @@ use Prim.Native.Nat.{ℕ, _<_}
 use Rattle.relation.proofs.Truth.{clashing, split}
 use Rattle.relation.proofs.Chains.{reach-map}
 use Rattle.schedules.specs.Machine.{Program, Lawful, Mismatch, state}
-use Rattle.schedules.specs.Threads.{Threads, at, commands, after, gens, Legal, Complete, stopped, mismatched, Clean}
-use Rattle.schedules.specs.Order.{Reaches, reach, Reuse, NoReuse}
-use Rattle.schedules.specs.Claims.{Alike, Settled, Precedes, AllRan, Sound, Real, Agree, Agreement, Disagreement, OneRelation, OneFirst, Always, EitherFirst, SameOrder, OneOrder}
+use Rattle.schedules.specs.Threads.{Threads, at, logOf, after, gens, Legal, Complete, stopped, mismatched, Clean}
+use Rattle.schedules.specs.HappensBefore.{Reaches, reach, Reuse, NoReuse}
+use Rattle.schedules.specs.Claims.{Alike, Settled, Precedes, AllRan, Sound, Real, Agree, Agreement, Disagreement, OneRelation, OneFirst, Always, EitherFirst, InOneOrder, OneOrder}
 use Rattle.schedules.proofs.Logs.{Allowed}
 use Rattle.schedules.proofs.Good.{good}
 use Rattle.schedules.proofs.Tests.{not-matching}
@@ -37,7 +37,7 @@ module _ {P : Program} (W : Lawful P) (H : Threads P) where
       let (C, same) = ended W (clean-log H W (F .clean)) (F .none) (legal-log H τ h) (stops-log H τ h stop) in
       (clean-run H W h C, same)
   sound σ F _ (mismatched {υ} h st w) =
-      absurd (not-matching w (fits W (clean-log H W (F .clean)) (F .none) (commands P H υ) (legal-log H υ h) (may H (stand H υ h) st)))
+      absurd (not-matching w (fits W (clean-log H W (F .clean)) (F .none) (logOf P H υ) (legal-log H υ h) (may H (stand H υ h) st)))
 
   dirty : {υ : List ℕ} {t : ℕ} → Mismatch P (after P H υ) (at P H υ t) → ¬ Clean P H (t ∷ υ)
   dirty w K = not-matching w (K .legal .2)
@@ -109,14 +109,14 @@ module _ {P : Program} (W : Lawful P) (H : Threads P) where
   pub always : Always P H
   always σ F x y p n ly reg τ K =
       let D = sound σ F τ K .0 in
-      always-log W (clean-log H W (F .clean)) (F .none) p n reg (commands P H τ) (legal-log H τ (D .legal)) (all-ran τ D y ly)
+      always-log W (clean-log H W (F .clean)) (F .none) p n reg (logOf P H τ) (legal-log H τ (D .legal)) (all-ran τ D y ly)
 
   pub either-first : EitherFirst P H
   either-first σ F x y lx ly n =
       let (l, h, rx, ry) = without W (clean-log H W (F .clean)) (F .none) x y lx ly n in
       let (υ, g, e) = led H l h in
       let (τ, r, K) = completes W H υ g in
-      (τ, K, record { part = commands P H υ; goes-on = goes-commands H r; sooner = rw e rx; later = rw e ry; at-last = all-ran τ (sound σ F τ K .0) y ly })
+      (τ, K, record { part = logOf P H υ; goes-on = goes-commands H r; sooner = rw e rx; later = rw e ry; at-last = all-ran τ (sound σ F τ K .0) y ly })
 
   pub one-order : OneOrder P H
   one-order σ F x y lx ly rx ry n = (forth, back)
@@ -125,14 +125,14 @@ module _ {P : Program} (W : Lawful P) (H : Threads P) where
       g = gens P H σ
 
       -- whoever reaches the other goes first in every complete schedule
-      back : Reaches P g x y ⊎ Reaches P g y x → SameOrder P H x y
+      back : Reaches P g x y ⊎ Reaches P g y x → InOneOrder P H x y
       back (inl p) τ υ K L = (λ _. always σ F x y p n ly ry υ L, λ _. always σ F x y p n ly ry τ K)
       back (inr p) τ υ K L =
           let never : (τ : List ℕ) → Complete P H τ → ¬ Precedes P H x y τ = λ τ K b. not-both b (always σ F y x p (λ e. n (sym e)) lx rx τ K) in
           (λ b. absurd (never τ K b), λ b. absurd (never υ L b))
 
       -- and where neither does, either goes first in some
-      forth : SameOrder P H x y → Reaches P g x y ⊎ Reaches P g y x
+      forth : InOneOrder P H x y → Reaches P g x y ⊎ Reaches P g y x
       forth S =
           ⊎-elim (λ (t : reach P g x y ≡ true). inl (decides P g x y lx ly .0 t))
           (λ (f : reach P g x y ≡ false). ⊎-elim (λ (t : reach P g y x ≡ true). inr (decides P g y x ly lx .0 t))

@@ -9,8 +9,8 @@ use native.Mathlib.Decide.{ℕ-discrete}
 use borrow.Author.Tests.{eq-eqb, ne-eqb}
 use Rattle.relation.proofs.Truth.{clashing, isnt}
 use Rattle.schedules.specs.Machine.{Program, Lawful, State, Matches, state, Ready}
-use Rattle.schedules.specs.Threads.{Threads, at, commands, after, Blocked, Steps, Legal, Stops, Clean}
-use Rattle.schedules.specs.Order.{Goes, stays, more}
+use Rattle.schedules.specs.Threads.{Threads, at, logOf, after, Blocked, Steps, Legal, Stops, Clean}
+use Rattle.schedules.specs.HappensBefore.{Goes, stays, more}
 use Rattle.schedules.proofs.Logs.{Allowed, LegalLog, StopsLog, CleanLog}
 use Rattle.schedules.proofs.Step.{ran-same, ran-other}
 use Rattle.schedules.proofs.Good.{Good, good}
@@ -118,7 +118,7 @@ module _ {P : Program} (H : Threads P) where
       th = its st .0
 
       stand-next : Stand (t ∷ υ)
-      unfolding commands state
+      unfolding logOf state
       stand-next =
           record {
             range =
@@ -135,7 +135,7 @@ module _ {P : Program} (H : Threads P) where
           }
 
   stand-start : Stand []
-  unfolding at commands state
+  unfolding at logOf state
   stand-start =
       record { range = λ t l. (omega arith, H .span t); behind = λ x l e. clashing e refl; ahead = λ x l e. absurd (omega (arith, H .home x l .1)) }
 
@@ -145,19 +145,19 @@ module _ {P : Program} (H : Threads P) where
   stand [] h = stand-start
   stand (t ∷ υ) h = stand-next (stand υ (h .0)) (h .1)
 
-  pub legal-log : (υ : List ℕ) → Legal P H υ → LegalLog P (commands P H υ)
-  unfolding commands
+  pub legal-log : (υ : List ℕ) → Legal P H υ → LegalLog P (logOf P H υ)
+  unfolding logOf
   legal-log [] h = tt
   legal-log (t ∷ υ) h = (legal-log υ (h .0), may (stand υ (h .0)) (h .1), h .2)
 
-  pub goes-commands : {τ υ : List ℕ} → Goes τ υ → Goes (commands P H τ) (commands P H υ)
-  unfolding commands
+  pub goes-commands : {τ υ : List ℕ} → Goes τ υ → Goes (logOf P H τ) (logOf P H υ)
+  unfolding logOf
   goes-commands stays = stays
   goes-commands (more {υ} t r) = more (at P H υ t) (goes-commands r)
 
   -- the schedule of a legal log
-  pub led : (l : List ℕ) → LegalLog P l → (υ : List ℕ) × Legal P H υ × (commands P H υ ≡ l)
-  unfolding commands
+  pub led : (l : List ℕ) → LegalLog P l → (υ : List ℕ) × Legal P H υ × (logOf P H υ ≡ l)
+  unfolding logOf
   led [] h = ([], tt, refl)
   led (c ∷ l) h =
       let (υ, g, e) = led l (h .0) in
@@ -167,14 +167,14 @@ module _ {P : Program} (H : Threads P) where
 
   -- ---- it stops where the other does, and is clean where the other is
 
-  pub stops-log : (υ : List ℕ) → Legal P H υ → Stops P H υ → StopsLog P (commands P H υ)
+  pub stops-log : (υ : List ℕ) → Legal P H υ → Stops P H υ → StopsLog P (logOf P H υ)
   stops-log υ h stop c A = stop (thread c) (must (stand υ h) A .1)
 
   module _ (W : Lawful P) where
     pub good-after : (υ : List ℕ) → Legal P H υ → Good P (after P H υ)
-    good-after υ h = good W (commands P H υ) (legal-log υ h)
+    good-after υ h = good W (logOf P H υ) (legal-log υ h)
 
-    pub clean-log : {υ : List ℕ} → Clean P H υ → CleanLog P (commands P H υ)
+    pub clean-log : {υ : List ℕ} → Clean P H υ → CleanLog P (logOf P H υ)
     clean-log {υ} C =
         record {
           legal = legal-log υ (C .legal);
@@ -183,7 +183,7 @@ module _ {P : Program} (H : Threads P) where
           unset = C .unset;
         }
 
-    pub clean-run : {υ : List ℕ} → Legal P H υ → CleanLog P (commands P H υ) → Clean P H υ
+    pub clean-run : {υ : List ℕ} → Legal P H υ → CleanLog P (logOf P H υ) → Clean P H υ
     clean-run {υ} g C =
         let S = stand υ g in
         record {

@@ -6,8 +6,8 @@ use mathlib.Core.Bool.{true, false}
 use mathlib.Core.List.{List}
 use Prim.Native.Nat.{ℕ, _<_}
 use Rattle.schedules.specs.Machine.{Program}
-use Rattle.schedules.specs.Threads.{Threads, commands, after, gens, Legal, Complete, Clean}
-use Rattle.schedules.specs.Order.{Reaches, reach, Reuse, NoReuse, Goes, Before}
+use Rattle.schedules.specs.Threads.{Threads, logOf, after, gens, Legal, Complete, Clean}
+use Rattle.schedules.specs.HappensBefore.{Reaches, reach, Reuse, NoReuse, Goes, Before}
 
 module _ (P : Program) where
   open Program P using (size)
@@ -36,7 +36,7 @@ module _ (P : Program) (H : Threads P) where
 
   -- x runs before y in a schedule.
   abbrev pub Precedes : ℕ → ℕ → List ℕ → Type 0
-  Precedes x y τ = Before P x y (commands P H τ)
+  Precedes x y τ = Before P x y (logOf P H τ)
 
   -- Every legal schedule goes on to a complete one.
   abbrev pub Completes : Type 0
@@ -93,11 +93,11 @@ module _ (P : Program) (H : Threads P) where
       (σ : List ℕ) → Settled σ → (x y : ℕ) → x < size → y < size → ¬ Reaches P (gens P H σ) y x → (τ : List ℕ) × Complete P H τ × Precedes x y τ
 
   -- x and y stand in the same order in all complete schedules.
-  abbrev pub SameOrder : ℕ → ℕ → Type 0
-  SameOrder x y = (σ τ : List ℕ) → Complete P H σ → Complete P H τ → Precedes x y σ ↔ Precedes x y τ
+  abbrev pub InOneOrder : ℕ → ℕ → Type 0
+  InOneOrder x y = (σ τ : List ℕ) → Complete P H σ → Complete P H τ → Precedes x y σ ↔ Precedes x y τ
 
   -- With no reuse fault, two accesses stand in the same order in all complete schedules exactly when one reaches the other.
   abbrev pub OneOrder : Type 0
   OneOrder =
       (σ : List ℕ) → Settled σ → (x y : ℕ) → x < size → y < size → registers x ≡ false → registers y ≡ false → x ≢ y
-      → SameOrder x y ↔ (Reaches P (gens P H σ) x y ⊎ Reaches P (gens P H σ) y x)
+      → InOneOrder x y ↔ (Reaches P (gens P H σ) x y ⊎ Reaches P (gens P H σ) y x)

@@ -3,6 +3,6 @@
 pub mod Tally
 pub mod Machine
 pub mod Threads
-pub mod Order
+pub mod HappensBefore
 pub mod Claims
 pub mod Shows

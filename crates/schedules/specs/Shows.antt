@@ -6,7 +6,7 @@ use mathlib.Core.List.{List}
 use Prim.Native.Nat.{ℕ, _<_}
 use Rattle.schedules.specs.Machine.{Program}
 use Rattle.schedules.specs.Threads.{Threads, at, after, gens, Steps, Legal, Complete, Clean}
-use Rattle.schedules.specs.Order.{Reaches, Reuse, Goes}
+use Rattle.schedules.specs.HappensBefore.{Reaches, Reuse, Goes}
 use Rattle.schedules.specs.Claims.{Settled, Precedes}
 
 -- E has d and all that c does not reach, and it does not have c.

@@ -31,13 +31,13 @@ module _ (P : Program) (H : Threads P) where
   at (u ∷ υ) t = at υ t + bit (eqb u t)
 
   -- One step runs the next command of one thread.
-  unfoldable pub commands : List ℕ → List ℕ
-  commands [] = []
-  commands (t ∷ υ) = at υ t ∷ commands υ
+  unfoldable pub logOf : List ℕ → List ℕ
+  logOf [] = []
+  logOf (t ∷ υ) = at υ t ∷ logOf υ
 
   -- The state after a schedule.
   abbrev pub after : List ℕ → State
-  after υ = state P (commands υ)
+  after υ = state P (logOf υ)
 
   -- The generation that each command has after a schedule.
   abbrev pub gens : List ℕ → ℕ → ℕ

@@ -11,7 +11,7 @@ use lib.ListN.{length, getD, drop, length-drop, length-map}
 use lib.Seq.{drop-drop}
 use borrow.Author.Tests.{eq-eqb, ne-eqb, eqb-false}
 use Rattle.spelling.specs.Bytes.{is, blank, blanks, skip}
-use Rattle.spelling.specs.Tokens.{Cut, cut, afterFirst, cutsN, cuts, starts, tokens}
+use Rattle.spelling.specs.Tokens.{Spot, spot, afterFirst, spotsN, spots, starts, tokens}
 use Rattle.spelling.proofs.Runs.{run-le}
 
 same-rest : {A B : Type 0} (g : A → B) (b : Bool) (z x y : A) → (b ≡ false → g x ≡ g y) → g (cond b z x) ≡ g (cond b z y)
@@ -31,48 +31,48 @@ module _ (size : List ℕ → ℕ) (pos : (s : List ℕ) → 0 < length s → 0 
       let h : 0 < length (skip s) = omega (arith, eqb-false (length (skip s)) 0 e) in
       omega (arith, length-later s h, pos (skip s) h)
 
-  cuts-empty : (n : ℕ) (s : List ℕ) (p : ℕ) → length s ≤ 0 → cutsN size n s p ≡ []
-  unfolding cutsN
+  cuts-empty : (n : ℕ) (s : List ℕ) (p : ℕ) → length s ≤ 0 → spotsN size n s p ≡ []
+  unfolding spotsN
   cuts-empty zero s p h = refl
   cuts-empty (suc n) s p h = rw (eq-eqb (length (skip s)) 0 (omega (arith, length-skip s)))
 
   -- fuel for the later tokens is all that counts
   fuel-step : (n m : ℕ) (s : List ℕ) (p : ℕ)
       → (eqb (length (skip s)) 0 ≡ false
-      → cutsN size n (afterFirst size s) (p + blanks s + size (skip s)) ≡ cutsN size m (afterFirst size s) (p + blanks s + size (skip s)))
-      → cutsN size (suc n) s p ≡ cutsN size (suc m) s p
-  unfolding cutsN
+      → spotsN size n (afterFirst size s) (p + blanks s + size (skip s)) ≡ spotsN size m (afterFirst size s) (p + blanks s + size (skip s)))
+      → spotsN size (suc n) s p ≡ spotsN size (suc m) s p
+  unfolding spotsN
   fuel-step n m s p f =
-      same-rest (λ (l : List Cut). l) (eqb (length (skip s)) 0) [] _ _ (λ e. ap (λ (l : List Cut). cut (p + blanks s) (skip s) ∷ l) (f e))
+      same-rest (λ (l : List Spot). l) (eqb (length (skip s)) 0) [] _ _ (λ e. ap (λ (l : List Spot). spot (p + blanks s) (skip s) ∷ l) (f e))
 
-  cuts-fuel : (n m : ℕ) (s : List ℕ) (p : ℕ) → length s ≤ n → length s ≤ m → cutsN size n s p ≡ cutsN size m s p
+  cuts-fuel : (n m : ℕ) (s : List ℕ) (p : ℕ) → length s ≤ n → length s ≤ m → spotsN size n s p ≡ spotsN size m s p
   cuts-fuel zero m s p h g = cuts-empty zero s p h ∙ sym (cuts-empty m s p h)
   cuts-fuel (suc n) zero s p h g = cuts-empty (suc n) s p g ∙ sym (cuts-empty zero s p g)
   cuts-fuel (suc n) (suc m) s p h g =
       fuel-step n m s p (λ e. cuts-fuel n m (afterFirst size s) _ (omega (arith, shorter s e)) (omega (arith, shorter s e)))
 
   -- the first token and the others, or none
-  cuts-step : (s : List ℕ) (p : ℕ) → cuts size s p ≡ cutsN size (suc (length (afterFirst size s))) s p
+  cuts-step : (s : List ℕ) (p : ℕ) → spots size s p ≡ spotsN size (suc (length (afterFirst size s))) s p
   cuts-step s p =
       cuts-fuel (length s) (suc (length s)) s p (omega arith) (omega arith)
       ∙ fuel-step (length s) (length (afterFirst size s)) s p
       (λ e. cuts-fuel (length s) (length (afterFirst size s)) (afterFirst size s) _ (omega (arith, shorter s e)) (omega arith))
 
-  cuts-end : (s : List ℕ) (p : ℕ) → length (skip s) ≡ 0 → cuts size s p ≡ []
-  unfolding cutsN
+  cuts-end : (s : List ℕ) (p : ℕ) → length (skip s) ≡ 0 → spots size s p ≡ []
+  unfolding spotsN
   cuts-end s p e = cuts-step s p ∙ rw (eq-eqb (length (skip s)) 0 e)
 
   cuts-on : (s : List ℕ) (p : ℕ) → 0 < length (skip s)
-      → cuts size s p ≡ cut (p + blanks s) (skip s) ∷ cuts size (afterFirst size s) (p + blanks s + size (skip s))
-  unfolding cutsN
+      → spots size s p ≡ spot (p + blanks s) (skip s) ∷ spots size (afterFirst size s) (p + blanks s + size (skip s))
+  unfolding spotsN
   cuts-on s p h = cuts-step s p ∙ rw (ne-eqb (length (skip s)) 0 (λ e. omega arith))
 
   pub starts-end : (s : List ℕ) (p : ℕ) → length (skip s) ≡ 0 → starts size s p ≡ []
-  starts-end s p e = ap (map (λ (c : Cut). c .place)) (cuts-end s p e)
+  starts-end s p e = ap (map (λ (c : Spot). c .place)) (cuts-end s p e)
 
   pub starts-on : (s : List ℕ) (p : ℕ) → 0 < length (skip s)
       → starts size s p ≡ (p + blanks s) ∷ starts size (afterFirst size s) (p + blanks s + size (skip s))
-  starts-on s p h = ap (map (λ (c : Cut). c .place)) (cuts-on s p h)
+  starts-on s p h = ap (map (λ (c : Spot). c .place)) (cuts-on s p h)
 
   -- no token begins past the end
   start-none : (i : ℕ) (s : List ℕ) (p : ℕ) → ¬ (0 < length (skip s)) → getD (starts size s p) i (p + length s) ≤ p + length s
@@ -89,22 +89,22 @@ module _ (size : List ℕ → ℕ) (pos : (s : List ℕ) → 0 < length s → 0 
       (start-none (suc i) s p)
 
   module _ {T : Type 0} (token : List ℕ → T) where
-    abbrev tok : Cut → T
+    abbrev tok : Spot → T
     tok c = token (c .bytes)
 
     -- the tokens do not depend on the place
-    anywhere : (n : ℕ) (s : List ℕ) (p q : ℕ) → map tok (cutsN size n s p) ≡ map tok (cutsN size n s q)
-    unfolding cutsN
+    anywhere : (n : ℕ) (s : List ℕ) (p q : ℕ) → map tok (spotsN size n s p) ≡ map tok (spotsN size n s q)
+    unfolding spotsN
     anywhere zero s p q = refl
     anywhere (suc n) s p q =
         same-rest (map tok) (eqb (length (skip s)) 0) [] _ _ (λ e. ap (λ (l : List T). token (skip s) ∷ l) (anywhere n (afterFirst size s) _ _))
 
-    tokens-anywhere : (s : List ℕ) (p : ℕ) → map (λ (c : Cut). token (c .bytes)) (cuts size s p) ≡ tokens size token s
+    tokens-anywhere : (s : List ℕ) (p : ℕ) → map (λ (c : Spot). token (c .bytes)) (spots size s p) ≡ tokens size token s
     tokens-anywhere s p = anywhere (length s) s p 0
 
     pub starts-tokens : (s : List ℕ) (p : ℕ) → length (starts size s p) ≡ length (tokens size token s)
     starts-tokens s p =
-        length-map (cuts size s p) (λ (c : Cut). c .place) ∙ sym (length-map (cuts size s p) tok) ∙ ap length (tokens-anywhere s p)
+        length-map (spots size s p) (λ (c : Spot). c .place) ∙ sym (length-map (spots size s p) tok) ∙ ap length (tokens-anywhere s p)
 
     pub tokens-end : (s : List ℕ) → length (skip s) ≡ 0 → tokens size token s ≡ []
     tokens-end s e = ap (map tok) (cuts-end s 0 e)

@@ -6,7 +6,7 @@ use mathlib.Core.List.{List, [], _∷_, _++_, append-nil}
 use Prim.Native.Nat.{ℕ, suc, _≤_}
 use native.Mathlib.Omega.{arith}
 use lib.ListN.{length, take, drop, take-append-drop}
-use Rattle.spelling.specs.Machine.{Move, refuse, on, rowDone, threadDone, further, moved, found}
+use Rattle.spelling.specs.Machine.{Move, refuse, on, rowDone, threadDone, further, foundAfter, found}
 use Rattle.spelling.specs.Refusal.{Follows}
 use Rattle.spelling.proofs.Laws.{Goes, Walk, walk-split, walk-one}
 
@@ -51,7 +51,7 @@ module _ {S T : Type 0} (next : S → T → Move S) (ends : S → Bool) where
     stops-next : (v : S) (n : ℕ) → Goes next s t v → Stops (further (found next ends ts v n .stop)) (t ∷ ts) s
     stops-next v n g = stops-on t ts s v g (found next ends ts v n .stop) (f v n)
 
-    stops-by : (m : Move S) (n : ℕ) → next s t ≡ m → Stops (moved m n (found next ends ts) .stop) (t ∷ ts) s
+    stops-by : (m : Move S) (n : ℕ) → next s t ≡ m → Stops (foundAfter m n (found next ends ts) .stop) (t ∷ ts) s
     stops-by refuse n e = (omega arith, s, refl, e)
     stops-by (on v) n e = stops-next v n (rw e)
     stops-by (rowDone r v) n e = stops-next v (suc n) (rw e)

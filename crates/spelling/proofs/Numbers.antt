@@ -8,13 +8,13 @@ use lib.Dec.{eqb, leb, ltb}
 use lib.ListN.{length, getD, drop, drop-of-length-le}
 use borrow.Author.Tests.{eq-eqb, eqb-true, lt-ltb, ltb-true, le-leb, leb-true}
 use Rattle.spelling.specs.declared.number.Numeral.{Numeral}
-use Rattle.spelling.specs.declared.number.Numeral.the-variants.{Number, Unfit}
+use Rattle.spelling.specs.declared.number.Numeral.the-variants.{Number, NotNumber}
 use Rattle.spelling.specs.Bytes.{classOf, is, digit, run}
 use Rattle.spelling.specs.Numbers.{mostNumber, decimal, Means, numeralOf}
 use Rattle.spelling.proofs.Scans.{drop-next}
 
 -- the four tests of a number
-passed : (v n : ℕ) (a b c d : Bool) → cond (a && (b && (c && d))) (Number v) Unfit ≡ Number n → (a ≡ true) × (b ≡ true) × (c ≡ true) × (d ≡ true) × (v ≡ n)
+passed : (v n : ℕ) (a b c d : Bool) → cond (a && (b && (c && d))) (Number v) NotNumber ≡ Number n → (a ≡ true) × (b ≡ true) × (c ≡ true) × (d ≡ true) × (v ≡ n)
 passed v n true true true true e = (refl, refl, refl, refl, cc)
 passed v n true true true false e = absurd (true≢false cc)
 passed v n true true false d e = absurd (true≢false cc)
@@ -54,12 +54,12 @@ number-means w n e =
       small = omega (arith, leb-true (decimal 0 w) mostNumber (h .3), h .4);
     }
 
-pub means-nothing : (w : List ℕ) → ((n : ℕ) → Means w n → ⊥) → numeralOf w ≡ Unfit
+pub means-nothing : (w : List ℕ) → ((n : ℕ) → Means w n → ⊥) → numeralOf w ≡ NotNumber
 means-nothing w h = by-numeral (numeralOf w) refl
   where
-    by-numeral : (x : Numeral) → numeralOf w ≡ x → x ≡ Unfit
+    by-numeral : (x : Numeral) → numeralOf w ≡ x → x ≡ NotNumber
     by-numeral (Number n) e = absurd (h n (number-means w n e))
-    by-numeral Unfit e = refl
+    by-numeral NotNumber e = refl
 
 -- a digit is a byte of 48 to 57
 pub digit-range : (b : ℕ) → classOf b ≡ digit → (48 ≤ b) × (b ≤ 57)

@@ -40,13 +40,13 @@ further none = none
 further (some i) = some (suc i)
 
 -- a token's move, with n rows of its thread so far; f finds the rest
-abbrev pub moved : {S : Type 0} → Move S → ℕ → (S → ℕ → Outcome) → Outcome
-moved refuse n f = outcome [] [] (some 0)
-moved (on s) n f = outcome (f s n .rows) (f s n .lengths) (further (f s n .stop))
-moved (rowDone r s) n f = outcome (r ∷ f s (suc n) .rows) (f s (suc n) .lengths) (further (f s (suc n) .stop))
-moved (threadDone s) n f = outcome (f s 0 .rows) (n ∷ f s 0 .lengths) (further (f s 0 .stop))
+abbrev pub foundAfter : {S : Type 0} → Move S → ℕ → (S → ℕ → Outcome) → Outcome
+foundAfter refuse n f = outcome [] [] (some 0)
+foundAfter (on s) n f = outcome (f s n .rows) (f s n .lengths) (further (f s n .stop))
+foundAfter (rowDone r s) n f = outcome (r ∷ f s (suc n) .rows) (f s (suc n) .lengths) (further (f s (suc n) .stop))
+foundAfter (threadDone s) n f = outcome (f s 0 .rows) (n ∷ f s 0 .lengths) (further (f s 0 .stop))
 
 -- what is found in tokens, from a state
 unfoldable pub found : {S T : Type 0} (next : S → T → Move S) (ends : S → Bool) → List T → S → ℕ → Outcome
 found next ends [] s n = outcome [] [] (cond (ends s) none (some 0))
-found next ends (t ∷ ts) s n = moved (next s t) n (found next ends ts)
+found next ends (t ∷ ts) s n = foundAfter (next s t) n (found next ends ts)

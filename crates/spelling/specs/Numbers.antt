@@ -6,7 +6,7 @@ use Prim.Native.Nat.{ℕ, _+_, _-_, _*_, _≤_, _<_}
 use lib.Dec.{eqb, leb, ltb}
 use lib.ListN.{length, getD}
 use Rattle.spelling.specs.declared.number.Numeral.{Numeral}
-use Rattle.spelling.specs.declared.number.Numeral.the-variants.{Number, Unfit}
+use Rattle.spelling.specs.declared.number.Numeral.the-variants.{Number, NotNumber}
 use Rattle.spelling.specs.Bytes.{is, digit, run}
 
 unfoldable pub mostNumber : ℕ
@@ -32,4 +32,4 @@ isNumber w =
 
 -- what the bytes are
 unfoldable pub numeralOf : List ℕ → Numeral
-numeralOf w = cond (isNumber w) (Number (decimal 0 w)) Unfit
+numeralOf w = cond (isNumber w) (Number (decimal 0 w)) NotNumber

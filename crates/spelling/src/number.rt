@@ -6,7 +6,7 @@ use crate::bytes::class_of;
 
 pub enum Numeral {
     Number(u32),
-    Unfit,
+    NotNumber,
 }
 
 impl Numeral {
@@ -19,21 +19,21 @@ pub fn read_number(bytes: &[u8]) -> Numeral
     ensures { λ r. ⌜ r ≡ numeralOf (now (bytes .entry)) ⌝ }
 {
     if bytes.len() == 0 {
-        return Numeral::Unfit;
+        return Numeral::NotNumber;
     }
     if bytes.len() != 1 && bytes[0] == 48 {
-        return Numeral::Unfit;
+        return Numeral::NotNumber;
     }
     let mut value = 0;
     let mut i = 0;
     while i < bytes.len() {
         let byte = bytes[i];
         if class_of(byte) != Byte::DIGIT {
-            return Numeral::Unfit;
+            return Numeral::NotNumber;
         }
         value = value * 10 + (byte - 48) as u32;
         if Numeral::MOST < value {
-            return Numeral::Unfit;
+            return Numeral::NotNumber;
         }
         i += 1;
     }

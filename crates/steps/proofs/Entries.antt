@@ -23,7 +23,7 @@ use Rattle.steps.specs.declared.step.Did.the-variants.{NotAllowed, Took}
 use Rattle.steps.specs.declared.going.Replayed.{Replayed}
 use Rattle.barriers.specs.Counting.{counted}
 use Rattle.steps.specs.Step.{stepped}
-use Rattle.steps.specs.Going.{ends, wentOn, oneOn, goOn}
+use Rattle.steps.specs.Going.{standing, wentOn, oneOn, goOn}
 use Rattle.steps.specs.Writing.{goesOn}
 use Rattle.steps.specs.Change.{applied}
 use Rattle.steps.proofs.Stepping.{Found, found-did, found-kept, found-after}
@@ -55,7 +55,7 @@ module _ (commands lengths : List ℕ) where
     pub goes-ended : told .number ≢ 0 → r ≡ goOn commands lengths σ r
     goes-ended n = sym (stays-ended r (λ z. n (number-is ∙ z)) σ)
 
-    pub goes-open : told .number ≡ 0 → goOn commands lengths σ (ends (r .state) (r .generations) (r .steps) verdict.Clean) ≡ goOn commands lengths σ r
+    pub goes-open : told .number ≡ 0 → goOn commands lengths σ (standing (r .state) (r .generations) (r .steps) verdict.Clean) ≡ goOn commands lengths σ r
     goes-open z = rw (zero-clean (r .verdict) (sym number-is ∙ z))
 
 -- ---- the loop over entries
@@ -63,10 +63,10 @@ module _ (commands lengths : List ℕ) where
 -- It has come to entry i, at this point.
 pub record At (commands lengths σ : List ℕ) (whole : Replayed) (s : Replay) (g : List ℕ) (n i : ℕ) : Type 0 where
   pub within : i ≤ length σ
-  pub is : goOn commands lengths σ whole ≡ goOn commands lengths (drop i σ) (ends s g n verdict.Clean)
+  pub is : goOn commands lengths σ whole ≡ goOn commands lengths (drop i σ) (standing s g n verdict.Clean)
 
 module _ (commands lengths σ : List ℕ) where
-  pub at-start : (s : Replay) (g : List ℕ) (n : ℕ) → At commands lengths σ (ends s g n verdict.Clean) s g n 0
+  pub at-start : (s : Replay) (g : List ℕ) (n : ℕ) → At commands lengths σ (standing s g n verdict.Clean) s g n 0
   at-start s g n = record { within = omega arith; is = refl }
 
   module _ (whole : Replayed) {s : Replay} {g : List ℕ} {n i : ℕ} (A : At commands lengths σ whole s g n i) where
@@ -75,19 +75,19 @@ module _ (commands lengths σ : List ℕ) where
     nothing (x ∷ l) zero h = absurd (omega arith)
     nothing (x ∷ l) (suc i) h = nothing l i (omega arith)
 
-    pub at-end : length σ ≤ i → ends s g n verdict.Clean ≡ goOn commands lengths σ whole
+    pub at-end : length σ ≤ i → standing s g n verdict.Clean ≡ goOn commands lengths σ whole
     unfolding goOn
     at-end l = sym (A .is ∙ rw (nothing σ i l))
 
     module _ (l : i < length σ) where
       -- the next entry
       next : {d : Did} {a : Replay} → stepped commands lengths s (getD σ i 0) .did ≡ d → stepped commands lengths s (getD σ i 0) .after ≡ a
-          → goOn commands lengths σ whole ≡ goOn commands lengths (drop (i + 1) σ) (wentOn d a (ends s g n verdict.Clean))
+          → goOn commands lengths σ whole ≡ goOn commands lengths (drop (i + 1) σ) (wentOn d a (standing s g n verdict.Clean))
       unfolding goOn
       next {d} {a} e f =
-          A .is ∙ ap (λ (l : List ℕ). goOn commands lengths l (ends s g n verdict.Clean)) (drop-cons σ i 0 l)
-          ∙ ap (goOn commands lengths (drop (suc i) σ)) (one-on commands lengths (ends s g n verdict.Clean) (getD σ i 0) refl e f)
-          ∙ ap (λ (k : ℕ). goOn commands lengths (drop k σ) (wentOn d a (ends s g n verdict.Clean))) (sym (add-one i))
+          A .is ∙ ap (λ (l : List ℕ). goOn commands lengths l (standing s g n verdict.Clean)) (drop-cons σ i 0 l)
+          ∙ ap (goOn commands lengths (drop (suc i) σ)) (one-on commands lengths (standing s g n verdict.Clean) (getD σ i 0) refl e f)
+          ∙ ap (λ (k : ℕ). goOn commands lengths (drop k σ) (wentOn d a (standing s g n verdict.Clean))) (sym (add-one i))
 
       module _ {row : Row} {made : Change} (F : Found commands lengths s (getD σ i 0) row made) where
         did-so : {d : Did} → made .did ≡ d → stepped commands lengths s (getD σ i 0) .did ≡ d
@@ -96,15 +96,15 @@ module _ (commands lengths σ : List ℕ) where
         kept-so : {d : Did} → made .did ≡ d → goesOn d ≡ false → stepped commands lengths s (getD σ i 0) .after ≡ s
         kept-so e f = found-kept F (ap goesOn e ∙ f)
 
-        pub at-refused : made .did ≡ NotAllowed → ends s g n (verdict.NotAllowed n) ≡ goOn commands lengths σ whole
+        pub at-refused : made .did ≡ NotAllowed → standing s g n (verdict.NotAllowed n) ≡ goOn commands lengths σ whole
         at-refused e =
-            sym (next (did-so e) (kept-so e refl) ∙ stays-ended commands lengths (ends s g n (verdict.NotAllowed n)) (λ z. omega arith) (drop (i + 1) σ))
+            sym (next (did-so e) (kept-so e refl) ∙ stays-ended commands lengths (standing s g n (verdict.NotAllowed n)) (λ z. omega arith) (drop (i + 1) σ))
 
         module _ {how : How} (took : made .did ≡ Took how) where
-          pub at-mismatch : {c : ℕ} → how ≡ Mismatch c → ends s g n (verdict.Mismatch c) ≡ goOn commands lengths σ whole
+          pub at-mismatch : {c : ℕ} → how ≡ Mismatch c → standing s g n (verdict.Mismatch c) ≡ goOn commands lengths σ whole
           at-mismatch {c} h =
               let e = took ∙ ap Took h in
-              sym (next (did-so e) (kept-so e refl) ∙ stays-ended commands lengths (ends s g n (verdict.Mismatch c)) (λ z. omega arith) (drop (i + 1) σ))
+              sym (next (did-so e) (kept-so e refl) ∙ stays-ended commands lengths (standing s g n (verdict.Mismatch c)) (λ z. omega arith) (drop (i + 1) σ))
 
           pub ran-goes : {c k : ℕ} → how ≡ Ran c k → goesOn (made .did) ≡ true
           ran-goes h = ap goesOn (took ∙ ap Took h)

@@ -7,7 +7,7 @@ use lib.ListN.{length}
 use Rattle.tables.specs.Limits.{barriers}
 use Rattle.tables.specs.Lowest.{lowest}
 use Rattle.verdicts.specs.Verdicts.{tell, numbered}
-use Rattle.verdicts.specs.InOrder.{orElse}
+use Rattle.verdicts.specs.FirstTold.{orElse}
 use Rattle.verdicts.specs.declared.Told.{Told}
 use Rattle.turns.specs.Turns.{held}
 use Rattle.steps.specs.declared.state.Replay.{Replay}

@@ -18,14 +18,14 @@ use Rattle.steps.specs.State.{start}
 use Rattle.steps.specs.Step.{stepped}
 
 -- where a replay has come to: the state, each command's generation, the steps that ran, and 5 or 7 or, if all ran, 0
-abbrev pub ends : Replay → List ℕ → ℕ → Verdict → Replayed
-ends s g steps v = record { state = s; generations = g; steps = steps; verdict = v }
+abbrev pub standing : Replay → List ℕ → ℕ → Verdict → Replayed
+standing s g steps v = record { state = s; generations = g; steps = steps; verdict = v }
 
 -- By what a step did. 5: a step that is not allowed ends the replay at once. 7: an allowed step mismatches; later entries aren't read.
 abbrev pub wentOn : Did → Replay → Replayed → Replayed
-wentOn NotAllowed s r = ends s (r .generations) (r .steps) (verdict.NotAllowed (r .steps))
-wentOn (Took (Mismatch c)) s r = ends s (r .generations) (r .steps) (verdict.Mismatch c)
-wentOn (Took (Ran c generation)) s r = ends s (set (r .generations) c generation) (counted (r .steps)) verdict.Clean
+wentOn NotAllowed s r = standing s (r .generations) (r .steps) (verdict.NotAllowed (r .steps))
+wentOn (Took (Mismatch c)) s r = standing s (r .generations) (r .steps) (verdict.Mismatch c)
+wentOn (Took (Ran c generation)) s r = standing s (set (r .generations) c generation) (counted (r .steps)) verdict.Clean
 
 -- One more entry. Where the replay has ended it changes nothing.
 unfoldable pub oneOn : List ℕ → List ℕ → Replayed → ℕ → Replayed
@@ -39,7 +39,7 @@ goOn commands lengths (t ∷ σ) r = goOn commands lengths σ (oneOn commands le
 
 -- nothing has run
 unfoldable pub begun : Replayed
-begun = ends start (replicate mostRows 0) 0 verdict.Clean
+begun = standing start (replicate mostRows 0) 0 verdict.Clean
 
 -- A schedule from the start.
 unfoldable pub played : List ℕ → List ℕ → List ℕ → Replayed

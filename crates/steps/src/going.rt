@@ -1,7 +1,7 @@
 // Any entries of a schedule, from any point, step by step. The state is taken and returned by value once; each step stores only what it changes.
 ghost use mathlib.Core.Path.{_≡_};
 ghost use Rattle.verdicts.specs.declared.Verdict.the-variants as verdict;
-ghost use Rattle.steps.specs.Going.{ends, begun, goOn};
+ghost use Rattle.steps.specs.Going.{standing, begun, goOn};
 use crate::change::run_row;
 use crate::firsts::first_at;
 use crate::firsts::first_rows;
@@ -39,7 +39,7 @@ impl Replayed {
 }
 
 fn stop(state: Replay, generations: [u32; Table::ROWS], steps: u32, verdict: Verdict) -> Replayed
-    ensures { λ r. ⌜ r ≡ ends state generations steps verdict ⌝ }
+    ensures { λ r. ⌜ r ≡ standing state generations steps verdict ⌝ }
 {
     Replayed {
         state,
@@ -54,7 +54,7 @@ pub fn go_on(from: Replayed, commands: &[u32], lengths: &[u32], entries: &[u32])
     ensures { λ r. ⌜ r ≡ goOn (now (commands .entry)) (now (lengths .entry)) (now (entries .entry)) from ⌝ }
 {
     let verdict = from.verdict;
-    if verdict.number().number != 0 {
+    if verdict.told().number != 0 {
         return from;
     }
     let state = from.state;
@@ -71,7 +71,7 @@ fn play(
     lengths: &[u32],
     entries: &[u32],
 ) -> Replayed
-    ensures { λ r. ⌜ r ≡ goOn (now (commands .entry)) (now (lengths .entry)) (now (entries .entry)) (ends from before ran verdict.Clean) ⌝ }
+    ensures { λ r. ⌜ r ≡ goOn (now (commands .entry)) (now (lengths .entry)) (now (entries .entry)) (standing from before ran verdict.Clean) ⌝ }
 {
     let firsts = first_rows(lengths);
     let mut state = from;

@@ -2,5 +2,5 @@
 -- Unique (nothing else meets the contract).
 pub mod Verdicts
 pub mod Numbers
-pub mod InOrder
+pub mod FirstTold
 pub mod Unique

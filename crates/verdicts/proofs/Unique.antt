@@ -4,5 +4,5 @@ use Rattle.verdicts.specs.declared.Verdict.{Verdict}
 use Rattle.verdicts.specs.declared.Told.{Told}
 use Rattle.verdicts.specs.Verdicts.{numbered}
 
-pub number-one : (v : Verdict) {r s : Told} → r ≡ numbered v → s ≡ numbered v → r ≡ s
-number-one v e f = e ∙ sym f
+pub told-one : (v : Verdict) {r s : Told} → r ≡ numbered v → s ≡ numbered v → r ≡ s
+told-one v e f = e ∙ sym f

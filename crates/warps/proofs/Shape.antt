@@ -35,19 +35,19 @@ AtBrk (tok div m ∷ W) = ⊥
 AtBrk (tok brk m ∷ W) = Unit {0}
 AtBrk (tok call m ∷ W) = ⊥
 
-abbrev pub Fits : (ℕ → Bool) → Stm → List Item → Type 0
-Fits looped skip W = Unit {0}
-Fits looped (assign c e) W = Unit {0}
-Fits looped (branch e a b) W = (looped a ≡ true → inLoop W ≡ true) × (looped b ≡ true → inLoop W ≡ true)
-Fits looped (while e k) W = Unit {0}
-Fits looped (again e k) W = AtBrk W
-Fits looped break W = inLoop W ≡ true
-Fits looped (invoke f) W = looped f ≡ false
-Fits looped return W = Unit {0}
+abbrev pub Shaped : (ℕ → Bool) → Stm → List Item → Type 0
+Shaped looped skip W = Unit {0}
+Shaped looped (assign c e) W = Unit {0}
+Shaped looped (branch e a b) W = (looped a ≡ true → inLoop W ≡ true) × (looped b ≡ true → inLoop W ≡ true)
+Shaped looped (while e k) W = Unit {0}
+Shaped looped (again e k) W = AtBrk W
+Shaped looped break W = inLoop W ≡ true
+Shaped looped (invoke f) W = looped f ≡ false
+Shaped looped return W = Unit {0}
 
 abbrev pub Shape : (ℕ → Bool) → List Item → Type 0
 Shape looped [] = Unit {0}
-Shape looped (stm s ∷ W) = Fits looped s W × (called W ≡ true) × Shape looped W
+Shape looped (stm s ∷ W) = Shaped looped s W × (called W ≡ true) × Shape looped W
 Shape looped (tok k m ∷ W) = Shape looped W
 
 -- ---- the stack, for one lane
@@ -103,7 +103,7 @@ module _ (looped : ℕ → Bool) where
       there : l ≡ true → inLoop (onto S W) ≡ true
       there e = in-onto S W ∙ i e
 
-      one : (s : Stm) → MayStand looped l s → Fits looped s (onto S W)
+      one : (s : Stm) → MayStand looped l s → Shaped looped s (onto S W)
       one skip g = tt
       one (assign c e) g = tt
       one (branch e a b) g = (λ x. there (g .0 x), λ x. there (g .1 x))

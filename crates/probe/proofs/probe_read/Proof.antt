@@ -16,10 +16,10 @@ put-told-requires c κs =
     let f = c .before in
     let n = f .before in
     let r = n .before .before .before .before .before in
-    (omega (arith, r .before .before .before .if1 .left), rw (n .number .ensures, f .counts-of .ensures) (reading-counted _ (r .read .ensures)))
+    (omega (arith, r .before .before .before .if1 .left), rw (n .told .ensures, f .sizes-of .ensures) (reading-counted _ (r .read .ensures)))
 
-sub-cut : tie.Need-sub-cut
-sub-cut c =
+sub-capped : tie.Need-sub-capped
+sub-capped c =
     let r = c .before .before .before .before .before .before .before .before .before .before .before in
     let a = r .before .before .before .before .before .before .before .before .args in
     rest-begins (a .text .now) (r .read .result) _ (c .rest .ensures .0) .0
@@ -32,8 +32,8 @@ returns-2 c =
     let f = p .before .before in
     let n = f .before in
     let r = n .before .before .before .before .before in
-    read-told _ _ _ _ (omega (arith, r .before .before .before .if1 .left)) (r .read .ensures) (n .number .ensures) (f .counts-of .ensures) (p .put-told .ensures) (s .rest .ensures .0)
-    (c .cut .ensures)
+    read-told _ _ _ _ (omega (arith, r .before .before .before .if1 .left)) (r .read .ensures) (n .told .ensures) (f .sizes-of .ensures) (p .put-told .ensures) (s .rest .ensures .0)
+    (c .capped .ensures)
 
 pub probe-read-spec : {M : Type 1} → statement M
 probe-read-spec =
@@ -45,7 +45,7 @@ probe-read-spec =
     (λ c κs. search needs)
     put-told-requires
     (λ c κs. search needs)
-    sub-cut
+    sub-capped
     (λ c κs. search needs)
     (λ c. search needs)
     (λ c. search needs)

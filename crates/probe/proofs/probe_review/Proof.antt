@@ -15,7 +15,7 @@ put-told-requires : tie.Need-put-told-requires
 put-told-requires c κs =
     let n = c .before in
     let r = n .before .before .before .before .before .before .before .before .before in
-    (omega (arith, r .before .before .before .before .if1 .left), rw (n .number .ensures) (review-counted (r .review-evidence .ensures)))
+    (omega (arith, r .before .before .before .before .if1 .left), rw (n .told .ensures) (review-counted (r .review-evidence .ensures)))
 
 put-sheet-requires : tie.Need-put-sheet-requires
 unfolding answerRoom
@@ -31,7 +31,7 @@ returns-2 c =
     let p = s .before .before .before .before in
     let n = p .before .before in
     let r = n .before .before .before .before .before .before .before .before .before in
-    review-told _ _ _ _ _ _ _ (omega (arith, r .before .before .before .before .if1 .left)) (r .review-evidence .ensures) (n .number .ensures) (p .put-told .ensures) (s .put-sheet .ensures)
+    review-told _ _ _ _ _ _ _ (omega (arith, r .before .before .before .before .if1 .left)) (r .review-evidence .ensures) (n .told .ensures) (p .put-told .ensures) (s .put-sheet .ensures)
 
 pub probe-review-spec : {M : Type 1} → statement M
 probe-review-spec =

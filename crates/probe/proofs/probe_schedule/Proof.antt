@@ -15,7 +15,7 @@ put-told-requires : tie.Need-put-told-requires
 put-told-requires c κs =
     let n = c .before in
     let w = n .before .before .before in
-    (omega (arith, w .before .before .if1 .left), rw (n .number .ensures) (written-counted (w .write-schedule .ensures)))
+    (omega (arith, w .before .before .if1 .left), rw (n .told .ensures) (written-counted (w .write-schedule .ensures)))
 
 returns-2 : tie.Need-returns-2
 unfolding answerRoom
@@ -23,7 +23,7 @@ returns-2 c =
     let p = c .before .before in
     let n = p .before .before in
     let w = n .before .before .before in
-    schedule-told _ _ _ _ (omega (arith, w .before .before .if1 .left)) (w .write-schedule .ensures) (n .number .ensures) (p .put-told .ensures)
+    schedule-told _ _ _ _ (omega (arith, w .before .before .if1 .left)) (w .write-schedule .ensures) (n .told .ensures) (p .put-told .ensures)
 
 pub probe-schedule-spec : {M : Type 1} → statement M
 probe-schedule-spec =

@@ -11,7 +11,7 @@ use Rattle.desk.proofs.conclusion.conclude.Tie as tie
 returns : tie.Need-returns
 returns c =
     let p = c .before .before .before .before .before .before .before .before .before .before .before .before .before .before .before .pre .0 in
-    refused-text (c .before .before .before .before .before .before .before .read .ensures) (p .numbers) (p .threads) (c .before .before .match .keys2) (c .before .number .ensures) (c .empty .ensures)
+    refused-text (c .before .before .before .before .before .before .before .read .ensures) (p .numbers) (p .threads) (c .before .before .match .keys2) (c .before .told .ensures) (c .empty .ensures)
 
 mul-numbers : tie.Need-mul-numbers
 unfolding mostRows

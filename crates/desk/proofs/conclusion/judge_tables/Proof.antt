@@ -20,7 +20,7 @@ returns c =
     let f = c .before .before .before .before .before .before .review in
     let w = c .before .before .before .before .before .before .before .before .before .before .before .write-schedule in
     let p = c .before .before .before .before .before .before .before .before .before .before .before .before .before .before .before .before .before .pre in
-    judged-tables (f .ensures) (p .wide) (p .high) (c .number .ensures) (λ e. steps-are (w .ensures) full-rows e)
+    judged-tables (f .ensures) (p .wide) (p .high) (c .told .ensures) (λ e. steps-are (w .ensures) full-rows e)
 
 pub judge-tables-spec : {M : Type 1} → statement M
 judge-tables-spec =

@@ -3,7 +3,7 @@ use mathlib.Core.Path.{_∙_}
 use native.Mathlib.Omega.{arith}
 use borrow.Author.Needs.{needs}
 use Rattle.tables.specs.Limits.{mostRows}
-use Rattle.verdicts.proofs.InOrder.{said-zero}
+use Rattle.verdicts.proofs.FirstTold.{said-zero}
 use Rattle.rooms.proofs.Refusals.{admitted}
 use Rattle.evidence.proofs.Doors.{showing-first, showing-room}
 use Rattle.evidence.proofs.door.refuse_showing.Statement.{statement}
@@ -13,7 +13,7 @@ returns : tie.Need-returns
 returns c =
     let n = c .before .before in
     let k = n .before .refuse in
-    showing-first _ _ _ _ _ (k .result) (k .ensures) (n .number .ensures) (c .if1 .taken)
+    showing-first _ _ _ _ _ (k .result) (k .ensures) (n .told .ensures) (c .if1 .taken)
 
 mul-needed : tie.Need-mul-needed
 unfolding mostRows
@@ -21,14 +21,14 @@ mul-needed c =
     let n = c .before .before in
     let k = n .before .refuse in
     let a = n .before .before .before .before .args in
-    let A = admitted (a .commands .now) (a .lengths .now) (a .relation) (a .generations) (said-zero (k .result) (n .number .ensures) (k .ensures) (c .if1 .left)) in
+    let A = admitted (a .commands .now) (a .lengths .now) (a .relation-len) (a .generation-len) (said-zero (k .result) (n .told .ensures) (k .ensures) (c .if1 .left)) in
     omega (arith, A .keeps .few-rows)
 
 returns-2 : tie.Need-returns-2
 returns-2 c =
     let n = c .before .before .before .before in
     let k = n .before .refuse in
-    c .short-room .ensures ∙ showing-room _ _ _ _ _ (k .result) (k .ensures) (n .number .ensures) (c .before .before .if1 .left)
+    c .short-room .ensures ∙ showing-room _ _ _ _ _ (k .result) (k .ensures) (n .told .ensures) (c .before .before .if1 .left)
 
 pub refuse-showing-spec : {M : Type 1} → statement M
 refuse-showing-spec =

@@ -9,7 +9,7 @@ show-requires : tie.Need-show-requires
 show-requires c κs = let p = c .before .before .before .before .before .before .before .before .before .before .before .before .before .before .before .before .before .pre in showable (c .before .before .before .before .before .before .before .before .review .ensures) (p .admitted) (p .fits)
 
 returns : tie.Need-returns
-returns c = let r = c .before .before .before .before .before .before .before .before .before .before .before .review .ensures in (r, shown-holds (c .before .before .before .before .before .before .before .before .before .before .before .before .before .before .before .before .before .before .before .before .pre .admitted) r (c .before .before .before .before .before .number .ensures) (c .before .before .show .ensures))
+returns c = let r = c .before .before .before .before .before .before .before .before .before .before .before .review .ensures in (r, shown-holds (c .before .before .before .before .before .before .before .before .before .before .before .before .before .before .before .before .before .before .before .before .pre .admitted) r (c .before .before .before .before .before .told .ensures) (c .before .before .show .ensures))
 
 pub review-shown-spec : {M : Type 1} → statement M
 review-shown-spec =

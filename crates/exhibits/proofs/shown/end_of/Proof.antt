@@ -5,7 +5,7 @@ use Rattle.exhibits.proofs.shown.end_of.Statement.{statement}
 use Rattle.exhibits.proofs.shown.end_of.Tie as tie
 
 returns : tie.Need-returns
-returns c = ended (c .before .before .judge .ensures) (c .number .ensures)
+returns c = ended (c .before .before .judge .ensures) (c .told .ensures)
 
 pub end-of-spec : {M : Type 1} → statement M
 end-of-spec = tie.close (tie.spec (λ c κs. search needs) (λ c κs. search needs) returns)

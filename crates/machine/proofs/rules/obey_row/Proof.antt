@@ -11,7 +11,7 @@ returns-2 : tie.Need-returns-2
 returns-2 c = by-assign _ _ _ _ (c .before .before .before .before .before .before .at .ensures) _ _ _ _ (c .before .before .before .before .if2 .taken) (c .before .before .assign .ensures)
 
 returns-3 : tie.Need-returns-3
-returns-3 c = by-if _ _ _ _ (c .before .before .before .before .before .before .before .before .at .ensures) _ _ _ _ (c .before .before .before .before .before .if3 .taken) (c .before .before .part .ensures)
+returns-3 c = by-if _ _ _ _ (c .before .before .before .before .before .before .before .before .at .ensures) _ _ _ _ (c .before .before .before .before .before .if3 .taken) (c .before .before .divide .ensures)
 
 returns-4 : tie.Need-returns-4
 returns-4 c = by-while _ _ _ _ (c .before .before .before .before .before .before .before .before .before .at .ensures) _ _ _ _ (c .before .before .before .before .before .if4 .taken) (c .before .before .enter-loop .ensures)

@@ -18,7 +18,7 @@ returns-2 c =
     let k = q .before .before in
     let j = k .before .before in
     promised _ _ _ _ _ _
-    (reading-over _ _ _ (omega (arith, j .before .if1 .left)) _ _ (sym (j .judge .ensures) ∙ k .m .given .1) (sym (q .too-many .ensures) ∙ c .if2 .taken)) refl refl
+    (reading-over _ _ _ (omega (arith, j .before .if1 .left)) _ _ (sym (j .scan .ensures) ∙ k .m .given .1) (sym (q .too-many .ensures) ∙ c .if2 .taken)) refl refl
 
 write-requires : tie.Need-write-requires
 write-requires c κs =
@@ -26,13 +26,13 @@ write-requires c κs =
     let q = i .before in
     let k = q .before .before in
     let j = k .before .before in
-    judged-rooms _ _ _ _ _ (sym (j .judge .ensures) ∙ k .m .given .1) (sym (q .too-many .ensures) ∙ i .if2 .left)
+    judged-rooms _ _ _ _ _ (sym (j .scan .ensures) ∙ k .m .given .1) (sym (q .too-many .ensures) ∙ i .if2 .left)
 
 returns-3 : tie.Need-returns-3
 unfolding mostBytes
 returns-3 c =
     let j = c .before .before .before in
-    promised _ _ _ _ _ _ (reading-unfit _ _ _ (omega (arith, j .before .if1 .left)) _ (sym (j .judge .ensures) ∙ c .before .place .given .1)) refl refl
+    promised _ _ _ _ _ _ (reading-unfit _ _ _ (omega (arith, j .before .if1 .left)) _ (sym (j .scan .ensures) ∙ c .before .place .given .1)) refl refl
 
 returns-4 : tie.Need-returns-4
 unfolding mostBytes
@@ -43,7 +43,7 @@ returns-4 c =
     let k = q .before .before in
     let j = k .before .before in
     promised _ _ _ _ _ _
-    (reading-accepted _ _ _ (omega (arith, j .before .if1 .left)) _ _ (sym (j .judge .ensures) ∙ k .m .given .1) (sym (q .too-many .ensures) ∙ i .if2 .left))
+    (reading-accepted _ _ _ (omega (arith, j .before .if1 .left)) _ _ (sym (j .scan .ensures) ∙ k .m .given .1) (sym (q .too-many .ensures) ∙ i .if2 .left))
     (w .write .ensures .0) (w .write .ensures .1)
 
 pub read-spec : {M : Type 1} → statement M

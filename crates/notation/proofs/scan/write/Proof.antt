@@ -44,7 +44,7 @@ returns-2 c =
     let k = c .before .before in
     let f = k .before .before in
     let x = f .before .before in
-    writing-refused (x .before .loop .inv) (sym (x .token-from .ensures) ∙ f .token .given .1) (sym (k .step .ensures) ∙ c .enum-told2 .given .1)
+    writing-refused (x .before .loop .inv) (sym (x .token-from .ensures) ∙ f .token .given .1) (sym (k .take-token .ensures) ∙ c .enum-told2 .given .1)
 
 -- a row
 put-row-requires : tie.Need-put-row-requires Inv-loop μ-loop
@@ -52,7 +52,7 @@ put-row-requires c κs =
     let k = c .before .before .before .before in
     let f = k .before .before in
     let x = f .before .before in
-    writing-room (x .before .loop .inv) (sym (x .token-from .ensures) ∙ f .token .given .1) (sym (k .step .ensures) ∙ c .before .before .kind .given .1) .0
+    writing-room (x .before .loop .inv) (sym (x .token-from .ensures) ∙ f .token .given .1) (sym (k .take-token .ensures) ∙ c .before .before .kind .given .1) .0
 
 add-numbers : tie.Need-add-numbers Inv-loop μ-loop
 unfolding mostRows
@@ -61,7 +61,7 @@ add-numbers c =
     let k = q .before .before in
     let f = k .before .before in
     let x = f .before .before in
-    omega (arith, writing-room (x .before .loop .inv) (sym (x .token-from .ensures) ∙ f .token .given .1) (sym (k .step .ensures) ∙ q .kind .given .1) .1)
+    omega (arith, writing-room (x .before .loop .inv) (sym (x .token-from .ensures) ∙ f .token .given .1) (sym (k .take-token .ensures) ∙ q .kind .given .1) .1)
 
 add-length : tie.Need-add-length Inv-loop μ-loop
 unfolding mostRows
@@ -70,7 +70,7 @@ add-length c =
     let k = q .before .before in
     let f = k .before .before in
     let x = f .before .before in
-    omega (arith, writing-room (x .before .loop .inv) (sym (x .token-from .ensures) ∙ f .token .given .1) (sym (k .step .ensures) ∙ q .kind .given .1) .2)
+    omega (arith, writing-room (x .before .loop .inv) (sym (x .token-from .ensures) ∙ f .token .given .1) (sym (k .take-token .ensures) ∙ q .kind .given .1) .2)
 
 loop-less-2 : tie.Need-loop-less-2 Inv-loop μ-loop
 loop-less-2 c =
@@ -85,7 +85,7 @@ loop-again-2 c =
     let f = k .before .before in
     let x = f .before .before in
     rw (c .before .before .put-row .ensures)
-    (writing-row (x .before .loop .inv) (sym (x .token-from .ensures) ∙ f .token .given .1) (sym (k .step .ensures) ∙ q .kind .given .1))
+    (writing-row (x .before .loop .inv) (sym (x .token-from .ensures) ∙ f .token .given .1) (sym (k .take-token .ensures) ∙ q .kind .given .1))
 
 -- a thread
 mul-lengths : tie.Need-mul-lengths Inv-loop μ-loop
@@ -94,14 +94,14 @@ mul-lengths c =
     let k = c .before .before in
     let f = k .before .before in
     let x = f .before .before in
-    omega (arith, writing-place (x .before .loop .inv) (sym (x .token-from .ensures) ∙ f .token .given .1) (sym (k .step .ensures) ∙ c .enum-told3 .given .1) .1)
+    omega (arith, writing-place (x .before .loop .inv) (sym (x .token-from .ensures) ∙ f .token .given .1) (sym (k .take-token .ensures) ∙ c .enum-told3 .given .1) .1)
 
 slice-write-lengths : tie.Need-slice-write-lengths Inv-loop μ-loop
 slice-write-lengths c =
     let k = c .before .before in
     let f = k .before .before in
     let x = f .before .before in
-    writing-place (x .before .loop .inv) (sym (x .token-from .ensures) ∙ f .token .given .1) (sym (k .step .ensures) ∙ c .enum-told3 .given .1) .0
+    writing-place (x .before .loop .inv) (sym (x .token-from .ensures) ∙ f .token .given .1) (sym (k .take-token .ensures) ∙ c .enum-told3 .given .1) .0
 
 add-threads : tie.Need-add-threads Inv-loop μ-loop
 unfolding mostThreads
@@ -109,7 +109,7 @@ add-threads c =
     let k = c .before .before in
     let f = k .before .before in
     let x = f .before .before in
-    omega (arith, writing-place (x .before .loop .inv) (sym (x .token-from .ensures) ∙ f .token .given .1) (sym (k .step .ensures) ∙ c .enum-told3 .given .1) .1)
+    omega (arith, writing-place (x .before .loop .inv) (sym (x .token-from .ensures) ∙ f .token .given .1) (sym (k .take-token .ensures) ∙ c .enum-told3 .given .1) .1)
 
 loop-less-3 : tie.Need-loop-less-3 Inv-loop μ-loop
 loop-less-3 c =
@@ -122,7 +122,7 @@ loop-again-3 c =
     let k = c .before .before in
     let f = k .before .before in
     let x = f .before .before in
-    writing-thread (x .before .loop .inv) (sym (x .token-from .ensures) ∙ f .token .given .1) (sym (k .step .ensures) ∙ c .enum-told3 .given .1)
+    writing-thread (x .before .loop .inv) (sym (x .token-from .ensures) ∙ f .token .given .1) (sym (k .take-token .ensures) ∙ c .enum-told3 .given .1)
 
 -- neither
 loop-less : tie.Need-loop-less Inv-loop μ-loop
@@ -136,7 +136,7 @@ loop-again c =
     let k = c .before .before .before in
     let f = k .before .before in
     let x = f .before .before in
-    writing-on (x .before .loop .inv) (sym (x .token-from .ensures) ∙ f .token .given .1) (sym (k .step .ensures) ∙ c .before .expected .given .1)
+    writing-on (x .before .loop .inv) (sym (x .token-from .ensures) ∙ f .token .given .1) (sym (k .take-token .ensures) ∙ c .before .expected .given .1)
 
 pub write-spec : {M : Type 1} → statement M
 write-spec =

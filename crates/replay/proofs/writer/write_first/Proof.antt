@@ -3,7 +3,7 @@ use mathlib.Core.Path.{refl, sym, _∙_}
 use borrow.Author.Needs.{needs}
 use lib.Seq.{length-take-le}
 use Rattle.verdicts.proofs.Verdicts.{zero-told}
-use Rattle.verdicts.proofs.InOrder.{number-is, said-zero}
+use Rattle.verdicts.proofs.FirstTold.{number-is, said-zero}
 use Rattle.rules.proofs.Checked.{passed}
 use Rattle.replay.proofs.Refusals.{unwritten-tables, unwritten-room, writer-fits}
 use Rattle.replay.proofs.Writing.{first-complete}
@@ -16,10 +16,10 @@ returns c =
     let n = c .before .before in
     let k = n .before .check-tables in
     record {
-      verdict = unwritten-tables _ _ (k .result) (k .ensures) (n .number .ensures) _ (c .if1 .taken);
+      verdict = unwritten-tables _ _ (k .result) (k .ensures) (n .told .ensures) _ (c .if1 .taken);
       refused = λ _. (refl, refl);
-      wrote = λ e. absurd (c .if1 .taken (number-is (k .result) (n .number .ensures) ∙ e));
-      complete = λ e. absurd (c .if1 .taken (number-is (k .result) (n .number .ensures) ∙ e));
+      wrote = λ e. absurd (c .if1 .taken (number-is (k .result) (n .told .ensures) ∙ e));
+      complete = λ e. absurd (c .if1 .taken (number-is (k .result) (n .told .ensures) ∙ e));
     }
 
 returns-2 : tie.Need-returns-2
@@ -28,17 +28,17 @@ returns-2 c =
     let n = c .before .before .before .before .before .before .before in
     let k = n .before .check-tables in
     record {
-      verdict = r .short-room .ensures ∙ unwritten-room _ _ (k .result) (k .ensures) (n .number .ensures) _ (c .before .before .before .before .before .if1 .left);
+      verdict = r .short-room .ensures ∙ unwritten-room _ _ (k .result) (k .ensures) (n .told .ensures) _ (c .before .before .before .before .before .if1 .left);
       refused = λ _. (refl, refl);
-      wrote = λ e. absurd (c .if2 .taken (number-is (r .short-room .result) (c .before .before .number2 .ensures) ∙ e));
-      complete = λ e. absurd (c .if2 .taken (number-is (r .short-room .result) (c .before .before .number2 .ensures) ∙ e));
+      wrote = λ e. absurd (c .if2 .taken (number-is (r .short-room .result) (c .before .before .told2 .ensures) ∙ e));
+      complete = λ e. absurd (c .if2 .taken (number-is (r .short-room .result) (c .before .before .told2 .ensures) ∙ e));
     }
 
 slice-relend-prefix-write-on : tie.Need-slice-relend-prefix-write-on
-slice-relend-prefix-write-on c = writer-fits _ _ (said-zero (c .before .before .before .before .short-room .result) (c .before .before .before .number2 .ensures) (c .before .before .before .before .short-room .ensures) (c .before .if2 .left))
+slice-relend-prefix-write-on c = writer-fits _ _ (said-zero (c .before .before .before .before .short-room .result) (c .before .before .before .told2 .ensures) (c .before .before .before .before .short-room .ensures) (c .before .if2 .left))
 
 slice-aggregate-write-on : tie.Need-slice-aggregate-write-on
-slice-aggregate-write-on c = sym (length-take-le _ _ (writer-fits _ _ (said-zero (c .before .before .before .before .before .short-room .result) (c .before .before .before .before .number2 .ensures) (c .before .before .before .before .before .short-room .ensures) (c .before .before .if2 .left))))
+slice-aggregate-write-on c = sym (length-take-le _ _ (writer-fits _ _ (said-zero (c .before .before .before .before .before .short-room .result) (c .before .before .before .before .told2 .ensures) (c .before .before .before .before .before .short-room .ensures) (c .before .before .if2 .left))))
 
 returns-3 : tie.Need-returns-3
 returns-3 c =
@@ -47,15 +47,15 @@ returns-3 c =
     let k = n .before .check-tables in
     let passes = c .before .before .before .before .before .before .before .before .before .before .if1 .left in
     let short = c .before .before .before .before .before .before .before .before .short-room in
-    let told = c .before .before .before .before .before .before .before .number2 .ensures in
-    let room = writer-fits _ _ (said-zero (c .before .before .before .before .before .before .before .before .short-room .result) (c .before .before .before .before .before .before .before .number2 .ensures) (c .before .before .before .before .before .before .before .before .short-room .ensures) (c .before .before .before .before .before .if2 .left)) in
+    let told = c .before .before .before .before .before .before .before .told2 .ensures in
+    let room = writer-fits _ _ (said-zero (c .before .before .before .before .before .before .before .before .short-room .result) (c .before .before .before .before .before .before .before .told2 .ensures) (c .before .before .before .before .before .before .before .before .short-room .ensures) (c .before .before .before .before .before .if2 .left)) in
     record {
       verdict =
           sym (zero-told (short .result) (sym (number-is (short .result) told) ∙ c .before .before .before .before .before .if2 .left)) ∙ short .ensures
-          ∙ unwritten-room _ _ (k .result) (k .ensures) (n .number .ensures) _ passes;
+          ∙ unwritten-room _ _ (k .result) (k .ensures) (n .told .ensures) _ passes;
       refused = λ h. absurd (h refl);
       wrote = λ _. wrote-first (a .early .now) (a .commands .now) (a .lengths .now) (a .room .now) (c .before .before .before .before .start .ensures) room (c .before .before .write-on .ensures);
-      complete = λ _. first-complete (passed _ _ (k .result) (k .ensures) (n .number .ensures) passes) _;
+      complete = λ _. first-complete (passed _ _ (k .result) (k .ensures) (n .told .ensures) passes) _;
     }
 
 pub write-first-spec : {M : Type 1} → statement M

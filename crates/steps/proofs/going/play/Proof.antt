@@ -6,7 +6,7 @@ use lib.ListN.{length, getD}
 use borrow.Author.Needs.{needs}
 use Rattle.tables.specs.Limits.{mostThreads, mostRows, barriers}
 use Rattle.verdicts.specs.declared.Verdict.the-variants as verdict
-use Rattle.steps.specs.Going.{ends}
+use Rattle.steps.specs.Going.{standing}
 use Rattle.steps.proofs.Stepping.{found, found-thread, found-next, stored}
 use Rattle.steps.proofs.Entries.{At, at-start, at-end, at-refused, at-mismatch, at-more, ran-goes}
 use Rattle.steps.proofs.going.play.Statement.{statement}
@@ -14,7 +14,7 @@ use Rattle.steps.proofs.going.play.Tie as tie
 
 abbrev Inv-loop : tie.InvT-loop
 Inv-loop ran commands lengths entries firsts state₀ generations₀ steps₀ i₀ state generations steps i =
-    (steps ≤ 4294967295) × (length generations ≡ mostRows) × At commands lengths entries (ends state₀ generations₀ steps₀ verdict.Clean) state generations steps i
+    (steps ≤ 4294967295) × (length generations ≡ mostRows) × At commands lengths entries (standing state₀ generations₀ steps₀ verdict.Clean) state generations steps i
 
 abbrev μ-loop : tie.MeasureT-loop
 μ-loop ran commands lengths entries firsts state₀ generations₀ steps₀ i₀ state generations steps i = length entries - i
