@@ -26,7 +26,7 @@ use Rattle.replay.proofs.Places.{generation-placed}
 use Rattle.replay.proofs.Plays.{clean-through}
 use Rattle.sheet.specs.declared.Sheet.{Sheet}
 use Rattle.sheet.specs.Sheet.{pair, keptPairs}
-use Rattle.rooms.specs.Refusals.{refusal}
+use Rattle.rooms.specs.Refusals.{reviewRefusal}
 use Rattle.rooms.specs.Rooms.{numberAt}
 use Rattle.rooms.proofs.Refusals.{admitted}
 use Rattle.happens.proofs.Reaching.{related-reaches}
@@ -65,10 +65,10 @@ module _ (commands lengths : List ℕ) (l : hasPairs (ofTables commands lengths 
   full : fills (toldOf commands lengths .number) ≡ true
   full = subst (λ (n : ℕ). fills n ≡ true) number-is (pairs-fill (ofTables commands lengths .told .number) l)
 
-  pub tables-pass : refusal commands lengths (words mostRows) mostRows .number ≡ 0
+  pub tables-pass : reviewRefusal commands lengths (words mostRows) mostRows .number ≡ 0
   unfolding verdictOf
   tables-pass =
-      let a = refusal commands lengths (words mostRows) mostRows in
+      let a = reviewRefusal commands lengths (words mostRows) mostRows in
       by-cases (ℕ-discrete (a .number) 0) (λ (e : a .number ≡ 0). e)
       (λ (n : a .number ≢ 0).
       let f : fills (a .number) ≡ true = subst (λ (t : Told). fills (t .number) ≡ true) (sym (or-first a (orElse (judged lengths (played commands lengths σ)) (faultTold commands lengths (generationsBy commands lengths σ) (reaches commands lengths σ))) n)) full in
@@ -79,7 +79,7 @@ module _ (commands lengths : List ℕ) (l : hasPairs (ofTables commands lengths 
   tables-gives =
       record {
         keeps = admitted commands lengths (words mostRows) mostRows tables-pass .keeps;
-        told = number-is ∙ ap (λ (t : Told). t .number) (sym (or-second (refusal commands lengths (words mostRows) mostRows) _ tables-pass));
+        told = number-is ∙ ap (λ (t : Told). t .number) (sym (or-second (reviewRefusal commands lengths (words mostRows) mostRows) _ tables-pass));
         sheet = λ _. rw full;
       }
 
@@ -124,7 +124,7 @@ module _ (text : List ℕ) where
         subst (λ (k : Conclusion). Gives (commandsOf text) (lengthsOf text) (offered text) (k .told .number) (k .sheet)) (sym text-is)
         (tables-gives (commandsOf text) (lengthsOf text) (table-pairs l))
 
-    text-passes : hasPairs n ≡ true → refusal (commandsOf text) (lengthsOf text) (words mostRows) mostRows .number ≡ 0
+    text-passes : hasPairs n ≡ true → reviewRefusal (commandsOf text) (lengthsOf text) (words mostRows) mostRows .number ≡ 0
     text-passes l = tables-pass (commandsOf text) (lengthsOf text) (table-pairs l)
 
   named : hasPairs n ≡ true → Named (commandsOf text) n s
@@ -190,7 +190,7 @@ module _ {text relation generations : List ℕ} {r : Concluded} {commands′ len
     G = text-gives text z faulty
 
     H : FilledRooms c l relation generations relation′ generations′
-    H = C .holds z (subst (λ (k : Conclusion). hasPairs (k .told .number) ≡ true) (sym (C .told)) faulty)
+    H = C .holds z (subst (λ (k : Conclusion). hasPairs (k .told .number) ≡ true) (sym (C .concludes)) faulty)
 
     same-numbers : (x : ℕ) → x < rows c → numberAt generations′ x ≡ generationsOf text x
     same-numbers x h =
@@ -212,15 +212,15 @@ module _ {text relation generations : List ℕ} {r : Concluded} {commands′ len
   unfolding textExhibits
   none-are f cs ls =
       let (a, b) = no-pairs k f in
-      by-cases (ℕ-discrete (refusal cs ls (length relation′) (length generations′) .number) 0)
-      (λ (z : refusal cs ls (length relation′) (length generations′) .number ≡ 0).
+      by-cases (ℕ-discrete (reviewRefusal cs ls (length relation′) (length generations′) .number) 0)
+      (λ (z : reviewRefusal cs ls (length relation′) (length generations′) .number ≡ 0).
       exhibited-all cs ls generations′ relation′ z k t ∙ exhibits-none cs ls (numberAt generations′) (related relation′ (rows cs)) k t a b)
-      (λ (d : refusal cs ls (length relation′) (length generations′) .number ≢ 0). exhibited-none cs ls generations′ relation′ d k t)
+      (λ (d : reviewRefusal cs ls (length relation′) (length generations′) .number ≢ 0). exhibited-none cs ls generations′ relation′ d k t)
       ∙ sym (exhibits-none c l (generationsOf text) (reachesOf text) k t a b)
 
   pub exhibits-are : exhibited (take (r .numbers) commands′) (take (r .threads) lengths′) generations′ relation′ (r .conclusion .told .number) (r .conclusion .sheet) ≡ textExhibits text
   exhibits-are =
-      ap (λ (q : Conclusion). exhibited (take (r .numbers) commands′) (take (r .threads) lengths′) generations′ relation′ (q .told .number) (q .sheet)) (C .told)
+      ap (λ (q : Conclusion). exhibited (take (r .numbers) commands′) (take (r .threads) lengths′) generations′ relation′ (q .told .number) (q .sheet)) (C .concludes)
       ∙ ⊎-elim
       (λ (p : hasPairs k ≡ true).
       let z = fault-read text p in
@@ -234,11 +234,11 @@ module _ {text relation generations : List ℕ} {r : Concluded} {commands′ len
   evidenced-text {room} h p q =
       record {
         refuses = λ g. absurd (omega arith);
-        answers = λ _. ap (λ (k : Conclusion). k .told .number) (C .told);
-        prints = λ _. puts-over (puts-on (rw (C .told) at p) (rw exhibits-are at q)) (omega (arith, all-fits text));
+        answers = λ _. ap (λ (k : Conclusion). k .told .number) (C .concludes);
+        prints = λ _. puts-over (puts-on (rw (C .concludes) at p) (rw exhibits-are at q)) (omega (arith, all-fits text));
         fits = all-fits text;
         possible = text-possible text;
-        demand₃ = λ _. rw (ap (λ (k : Conclusion). k .told .number) (C .told)) (text-judged text);
+        demand₃ = λ _. rw (ap (λ (k : Conclusion). k .told .number) (C .concludes)) (text-judged text);
         reuse = ten-so text;
         races = eleven-so text;
       }

@@ -28,7 +28,7 @@ use Rattle.replay.specs.Writer.{scheduleBy, schedule}
 use Rattle.sheet.specs.Sheet.{mostKept, firsts, sheetOf}
 use Rattle.faults.specs.Faults.{succeeds, reuse, conflict, race, alongRow, allRows, faults}
 use Rattle.rooms.specs.Short.{firstShort}
-use Rattle.rooms.specs.Refusals.{refusal}
+use Rattle.rooms.specs.Refusals.{reviewRefusal}
 use Rattle.review.specs.Judge.{verdictOf}
 use Rattle.printing.specs.Figures.{figuresTo, figures}
 use Rattle.desk.specs.Conclusion.{ofTables, ofText}
@@ -40,6 +40,6 @@ unfolding reports reported
     mostRows mostThreads addresses barriers mostCount total firstRow threadOf lowest rowKeeps firstBad checked rounds width edge reach
     classOf run sameBytes mostNumber decimal numeralOf cutsN flat found wordOf markOf pieceOf tokenMoves mostBytes judgedOf tooMany reading
     counted registration start held hasLeft mayStep allowed registering running stepped oneOn goOn begun played ended judged stepping scheduleBy schedule mostKept firsts sheetOf
-    succeeds reuse conflict race alongRow allRows faults firstShort refusal verdictOf
+    succeeds reuse conflict race alongRow allRows faults firstShort reviewRefusal verdictOf
     figuresTo figures ofTables ofText twoNumbers verdictLine totalLine pairLines report
 every = refl

@@ -22,6 +22,7 @@ use Rattle.desk.specs.Conclusion.{toldOf, pairsOf, ofTables, ofText}
 use Rattle.desk.specs.Evidence.{textExhibits}
 use Rattle.desk.specs.OneReport.{OneReport, SameAsReview}
 use Rattle.desk.proofs.Demands.{denoted-concluded}
+use Rattle.review.proofs.Telling.{verdict-is, sheet-is}
 
 pub one-report : OneReport
 unfolding textExhibits
@@ -44,8 +45,8 @@ module _ {commands lengths : List ℕ} (r : Review commands lengths) (s : settle
   concluded : ofTables commands lengths ≡ record { told = numbered (r .found .verdict); sheet = r .found .sheet }
   unfolding ofTables
   concluded =
-      let t : toldOf commands lengths ≡ numbered (r .found .verdict) = one-told writer-settles (settling r s) ∙ sym (r .meets .demand₂ .verdict) in
-      let h : sheetOf (pairsOf commands lengths) ≡ r .found .sheet = ap sheetOf (one-pairs writer-settles (settling r s)) ∙ sym (r .meets .demand₂ .sheet (settled-fills (number (r .found)) s)) in
+      let t : toldOf commands lengths ≡ numbered (r .found .verdict) = one-told writer-settles (settling r s) ∙ sym (verdict-is (r .meets .demand₂)) in
+      let h : sheetOf (pairsOf commands lengths) ≡ r .found .sheet = ap sheetOf (one-pairs writer-settles (settling r s)) ∙ sym (sheet-is (r .meets .demand₂) (settled-fills (number (r .found)) s)) in
       rw (settled-fills (toldOf commands lengths .number) (writer-settles .settled), t, h)
 
 -- that the verdict settles is computed from what the claim asks of it

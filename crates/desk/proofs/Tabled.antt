@@ -33,6 +33,7 @@ use Rattle.review.proofs.Bounds.{refused-checked}
 use Rattle.report.specs.declared.Conclusion.{Conclusion}
 use Rattle.desk.specs.Conclusion.{toldOf, pairsOf, ofTables, bare}
 use Rattle.desk.specs.Rooms.{FilledRooms, JudgesTables}
+use Rattle.review.proofs.Telling.{verdict-is, sheet-is}
 
 -- rooms of zeros are full ones
 pub full-numbers : length {A = ℕ} (replicate 1536 0) ≡ mostRows * 3
@@ -101,18 +102,18 @@ module _ {commands lengths σ relation room relation′ room′ : List ℕ} {f :
       passed : checked commands lengths .number ≡ 0 → told-as ≡ ofTables commands lengths
       passed e =
           let q = s e in
-          let v : numbered (f .verdict) ≡ toldOf commands lengths = R .demand₂ .verdict ∙ rw (wide, high, q) in
-          agrees v (λ p. R .demand₂ .sheet (ap (λ (u : Told). fills (u .number)) v ∙ p) ∙ rw q)
+          let v : numbered (f .verdict) ≡ toldOf commands lengths = verdict-is (R .demand₂) ∙ rw (wide, high, q) in
+          agrees v (λ p. sheet-is (R .demand₂) (ap (λ (u : Told). fills (u .number)) v ∙ p) ∙ rw q)
 
       refused : checked commands lengths .number ≢ 0 → told-as ≡ ofTables commands lengths
       refused n =
           let q : toldOf commands lengths ≡ checked commands lengths = refused-checked commands lengths n (schedule commands lengths) (words mostRows) mostRows in
-          agrees (R .demand₂ .verdict ∙ refused-checked commands lengths n σ (length relation) (length room) ∙ sym q)
+          agrees (verdict-is (R .demand₂) ∙ refused-checked commands lengths n σ (length relation) (length room) ∙ sym q)
           (λ p. absurd (true≢false (sym p ∙ rw q (checked-unfilled commands lengths n))))
 
   -- for 10 and 11 the tables pass, and the rooms are filled
   pub judged-tables : (checked commands lengths .number ≡ 0 → σ ≡ schedule commands lengths) → JudgesTables commands lengths relation room told-as relation′ room′
-  judged-tables s = record { told = concluded s; holds = λ l. by-cases (ℕ-discrete (checked commands lengths .number) 0) (filled-rooms l) (λ n. absurd (refused-low l n)) }
+  judged-tables s = record { concludes = concluded s; holds = λ l. by-cases (ℕ-discrete (checked commands lengths .number) 0) (filled-rooms l) (λ n. absurd (refused-low l n)) }
     where
       filled-rooms : hasPairs (t .number) ≡ true → checked commands lengths .number ≡ 0 → FilledRooms commands lengths relation room relation′ room′
       filled-rooms l e =
@@ -125,5 +126,5 @@ module _ {commands lengths σ relation room relation′ room′ : List ℕ} {f :
 
       refused-low : hasPairs (t .number) ≡ true → checked commands lengths .number ≢ 0 → ⊥
       refused-low l n =
-          let e = said ∙ R .demand₂ .verdict ∙ refused-checked commands lengths n σ (length relation) (length room) in
+          let e = said ∙ verdict-is (R .demand₂) ∙ refused-checked commands lengths n σ (length relation) (length room) in
           clashing (subst (λ (u : Told). fills (u .number) ≡ true) e (pairs-fill (t .number) l)) (checked-unfilled commands lengths n)

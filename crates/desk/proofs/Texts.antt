@@ -45,7 +45,7 @@ module _ {text commands lengths commands′ lengths′ : List ℕ} {r : Reading}
       let p : t ≡ readAs text = e ∙ told-as in
       let z : _≡_ {A = Conclusion} (record { told = t; sheet = s }) (bare (readAs text)) = cc in
       record {
-        told = rw (ne-eqb (readAs text .number) 0 n) z;
+        concludes = rw (ne-eqb (readAs text .number) 0 n) z;
         numbers-fit = omega arith;
         threads-fit = omega arith;
         numbers = λ e. absurd (n e);
@@ -95,9 +95,9 @@ module _ {text commands lengths commands′ lengths′ : List ℕ} {r : Reading}
     unfolding ofText
     accepted-text {k} {relation} {generations} {relation′} {generations′} J =
         let z : readAs text .number ≡ 0 = ap (λ (a : Told). a .number) (sym told-as) ∙ ap (λ (q : Reading). answered q .told .number) is in
-        let p : k ≡ ofTables (rowNumbers text) (threadLengths text) = J .told ∙ rw (rows-read, lengths-read) in
+        let p : k ≡ ofTables (rowNumbers text) (threadLengths text) = J .concludes ∙ rw (rows-read, lengths-read) in
         record {
-          told = rw (eq-eqb (readAs text .number) 0 z) p;
+          concludes = rw (eq-eqb (readAs text .number) 0 z) p;
           numbers-fit = numbers-fit;
           threads-fit = threads-fit;
           numbers = λ _. rows-read;

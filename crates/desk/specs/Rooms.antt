@@ -34,12 +34,12 @@ pub record FilledRooms (commands lengths relation generations relation′ genera
 
 -- two tables are judged; for 10 and 11 the rooms are filled
 pub record JudgesTables (commands lengths relation generations : List ℕ) (r : Conclusion) (relation′ generations′ : List ℕ) : Type 0 where
-  pub told : r ≡ ofTables commands lengths
+  pub concludes : r ≡ ofTables commands lengths
   pub holds : hasPairs (r .told .number) ≡ true → FilledRooms commands lengths relation generations relation′ generations′
 
 -- a text is judged; where it is read, its tables stand first in their rooms
 pub record Concludes (text relation generations : List ℕ) (r : Concluded) (commands′ lengths′ relation′ generations′ : List ℕ) : Type 0 where
-  pub told : r .conclusion ≡ ofText text
+  pub concludes : r .conclusion ≡ ofText text
   pub numbers-fit : r .numbers ≤ length commands′
   pub threads-fit : r .threads ≤ length lengths′
   pub numbers : readAs text .number ≡ 0 → take (r .numbers) commands′ ≡ rowNumbers text

@@ -20,7 +20,7 @@ use Rattle.steps.specs.Writing.{FilledBy}
 use Rattle.verdicts.specs.FirstTold.{orElse}
 use Rattle.verdicts.proofs.FirstTold.{or-either, or-zero, or-assoc, said-first, said-second}
 use Rattle.rooms.specs.Short.{roomOf, firstShort}
-use Rattle.rooms.specs.Refusals.{reviewRooms, refusal}
+use Rattle.rooms.specs.Refusals.{reviewRooms, reviewRefusal}
 use Rattle.rooms.proofs.Rooms.{all-long, first-either, none-either, then-short}
 use Rattle.review.specs.Judge.{reaches}
 use Rattle.review.specs.Agreement.{number, Reviewed}
@@ -41,7 +41,7 @@ none-is {room} {room′} {n} F = (F .long, F .room ∙ ap (λ (k : ℕ). drop k 
 -- ---- what the room holds
 
 module _ {commands lengths σ relation generations : List ℕ} {f : Finding} {relation′ generations′ : List ℕ} (R : Reviewed commands lengths σ relation generations f relation′ generations′)
-    (pass : refusal commands lengths (length relation) (length generations) .number ≡ 0) {room room′ : List ℕ} {n : ℕ}
+    (pass : reviewRefusal commands lengths (length relation) (length generations) .number ≡ 0) {room room′ : List ℕ} {n : ℕ}
     (F : FilledBy (evidenceOf commands lengths (reaches commands lengths σ) (number f) (f .sheet)) room room′ n) where
   abbrev ρ : ℕ → ℕ → Bool
   ρ = reaches commands lengths σ
@@ -81,7 +81,7 @@ module _ {commands lengths σ relation generations : List ℕ} {f : Finding} {re
 
 -- what `show` left, over the relation room
 pub shown-holds : {commands lengths σ relation generations room : List ℕ} {f : Finding} {relation′ generations′ room′ : List ℕ} {n : ℕ}
-    → refusal commands lengths (length relation) (length generations) .number ≡ 0 → Reviewed commands lengths σ relation generations f relation′ generations′
+    → reviewRefusal commands lengths (length relation) (length generations) .number ≡ 0 → Reviewed commands lengths σ relation generations f relation′ generations′
     → {t : Told} → t ≡ numbered (f .verdict) → FilledBy (evidenceOf commands lengths (related relation′ (rows commands)) (t .number) (f .sheet)) room room′ n
     → HoldsEvidence commands lengths σ room (record { finding = f; entries = n }) room′
 shown-holds {commands} {lengths} {room = room} {f = f} {relation′ = relation′} {room′ = room′} {n = n} pass R e F =
@@ -96,14 +96,14 @@ module _ (commands lengths : List ℕ) (relation generations given : ℕ) where
   lent = roomOf 4 (evidenceRoom (rows commands)) given
 
   -- what is refused without evidence, and then the evidence room
-  showing-is : orElse (refusal commands lengths relation generations) (firstShort (lent ∷ [])) ≡ evidenceRefusal commands lengths relation generations given
-  unfolding evidenceRefusal refusal
+  showing-is : orElse (reviewRefusal commands lengths relation generations) (firstShort (lent ∷ [])) ≡ evidenceRefusal commands lengths relation generations given
+  unfolding evidenceRefusal reviewRefusal
   showing-is =
       or-assoc (checked commands lengths) (firstShort (reviewRooms (rows commands) relation generations)) (firstShort (lent ∷ []))
       ∙ ap (orElse (checked commands lengths)) (sym (then-short (reviewRooms (rows commands) relation generations) (lent ∷ [])))
 
   -- v is what is refused without evidence
-  module _ (v : Verdict) {told : Told} (is : numbered v ≡ refusal commands lengths relation generations) (said : told ≡ numbered v) where
+  module _ (v : Verdict) {told : Told} (is : numbered v ≡ reviewRefusal commands lengths relation generations) (said : told ≡ numbered v) where
     pub showing-first : told .number ≢ 0 → numbered v ≡ evidenceRefusal commands lengths relation generations given
     showing-first n = said-first v said (firstShort (lent ∷ [])) n ∙ ap (λ (t : Told). orElse t (firstShort (lent ∷ []))) is ∙ showing-is
 
@@ -111,16 +111,16 @@ module _ (commands lengths : List ℕ) (relation generations given : ℕ) where
     showing-room e = said-second v said (firstShort (lent ∷ [])) e ∙ ap (λ (t : Told). orElse t (firstShort (lent ∷ []))) is ∙ showing-is
 
   -- what holds of what is told without evidence, of 4 with digit 4, and of 0, holds of what is told
-  pub showing-either : (P : Told → Type 0) → P (refusal commands lengths relation generations) → P (tell 4 4 0) → P (tell 0 0 0)
+  pub showing-either : (P : Told → Type 0) → P (reviewRefusal commands lengths relation generations) → P (tell 4 4 0) → P (tell 0 0 0)
       → P (evidenceRefusal commands lengths relation generations given)
   showing-either P p q z =
-      subst P showing-is (or-either P (refusal commands lengths relation generations) _ p (λ _. first-either lent [] P q (none-either P z)))
+      subst P showing-is (or-either P (reviewRefusal commands lengths relation generations) _ p (λ _. first-either lent [] P q (none-either P z)))
 
   -- tables and rooms that are not refused here are not refused without evidence, and the evidence room suffices
   pub showing-passes : evidenceRefusal commands lengths relation generations given .number ≡ 0
-      → (refusal commands lengths relation generations .number ≡ 0) × (evidenceRoom (rows commands) ≤ given)
+      → (reviewRefusal commands lengths relation generations .number ≡ 0) × (evidenceRoom (rows commands) ≤ given)
   showing-passes z =
-      let (a, b) = or-zero (refusal commands lengths relation generations) (firstShort (lent ∷ [])) (ap (λ (t : Told). t .number) showing-is ∙ z) in
+      let (a, b) = or-zero (reviewRefusal commands lengths relation generations) (firstShort (lent ∷ [])) (ap (λ (t : Told). t .number) showing-is ∙ z) in
       (a, all-long lent [] b .0)
 
 pub admissible : (commands lengths relation generations room : List ℕ) → refusalOf commands lengths relation generations room .number ≡ 0

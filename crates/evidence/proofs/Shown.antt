@@ -21,7 +21,7 @@ use Rattle.verdicts.specs.FirstTold.{orElse}
 use Rattle.steps.specs.Ending.{judged}
 use Rattle.steps.specs.Going.{played}
 use Rattle.verdicts.proofs.FirstTold.{or-second}
-use Rattle.rooms.specs.Refusals.{refusal}
+use Rattle.rooms.specs.Refusals.{reviewRefusal}
 use Rattle.happens.proofs.Reaching.{related-reaches}
 use Rattle.rooms.proofs.Refusals.{Admitted, admitted}
 use Rattle.review.specs.Judge.{generationsBy, reaches, verdictOf}
@@ -31,22 +31,23 @@ use Rattle.evidence.specs.Parts.{Showable}
 use Rattle.evidence.specs.Evidence.{evidenceRoom}
 use Rattle.evidence.proofs.Verdicts.{Gives, ten-commands, ten-disputes, eleven-commands, eleven-orders, eleven-long}
 use Rattle.evidence.proofs.Slices.{evidence-alike, nothing-of}
+use Rattle.review.proofs.Telling.{verdict-is, sheet-is}
 
 module _ {commands lengths σ relation room : List ℕ} {r : Finding} {relation′ room′ : List ℕ} (R : Reviewed commands lengths σ relation room r relation′ room′)
-    (pass : refusal commands lengths (length relation) (length room) .number ≡ 0) where
+    (pass : reviewRefusal commands lengths (length relation) (length room) .number ≡ 0) where
   A : Admitted commands lengths (length relation) (length room)
   A = admitted commands lengths (length relation) (length room) pass
 
   told : number r ≡ orElse (judged lengths (played commands lengths σ)) (faultTold commands lengths (generationsBy commands lengths σ) (reaches commands lengths σ)) .number
   unfolding verdictOf
-  told = ap (λ (t : Told). t .number) (R .demand₂ .verdict ∙ sym (or-second (refusal commands lengths (length relation) (length room)) _ pass))
+  told = ap (λ (t : Told). t .number) (verdict-is (R .demand₂) ∙ sym (or-second (reviewRefusal commands lengths (length relation) (length room)) _ pass))
 
   module _ (fault : hasPairs (number r) ≡ true) where
     full : fills (number r) ≡ true
     full = pairs-fill (number r) fault
 
-    sheet-is : r .sheet ≡ sheetOf (faultPairs commands lengths (generationsBy commands lengths σ) (reaches commands lengths σ))
-    sheet-is = R .demand₂ .sheet full
+    sheet-so : r .sheet ≡ sheetOf (faultPairs commands lengths (generationsBy commands lengths σ) (reaches commands lengths σ))
+    sheet-so = sheet-is (R .demand₂) full
 
     -- what the relation room holds is what reaches what
     related-is : (c x : ℕ) → c < rows commands → x < rows commands → related relation′ (rows commands) c x ≡ reaches commands lengths σ c x
@@ -54,7 +55,7 @@ module _ {commands lengths σ relation room : List ℕ} {r : Finding} {relation�
 
   -- by the verdict and the sheet
   gives : Gives commands lengths σ (number r) (r .sheet)
-  gives = record { keeps = A .keeps; told = told; sheet = sheet-is }
+  gives = record { keeps = A .keeps; told = told; sheet = sheet-so }
 
   pub shown-ten : number r ≡ 10 → Disputes commands lengths σ (against commands lengths (reaches commands lengths σ) (firstKept (r .sheet)))
   shown-ten = ten-disputes gives
@@ -77,7 +78,7 @@ module _ {commands lengths σ relation room : List ℕ} {r : Finding} {relation�
 
   some-sheet : (ps : List Pair) × (r .sheet ≡ sheetOf ps)
   some-sheet =
-      ⊎-elim (λ (t : fills (number r) ≡ true). (faultPairs commands lengths (generationsBy commands lengths σ) (reaches commands lengths σ), R .demand₂ .sheet t))
+      ⊎-elim (λ (t : fills (number r) ≡ true). (faultPairs commands lengths (generationsBy commands lengths σ) (reaches commands lengths σ), sheet-is (R .demand₂) t))
       (λ (f : fills (number r) ≡ false). ([], R .demand₁ .empty f))
       (split (fills (number r)))
 

@@ -15,7 +15,7 @@ use Rattle.sheet.specs.Sheet.{pair, sheetOf, keptPairs}
 use Rattle.verdicts.specs.FirstTold.{orElse}
 use Rattle.steps.specs.Writing.{FilledBy}
 use Rattle.rooms.specs.Short.{roomOf, firstShort}
-use Rattle.rooms.specs.Refusals.{reviewRooms, refusal}
+use Rattle.rooms.specs.Refusals.{reviewRooms, reviewRefusal}
 use Rattle.review.specs.Judge.{reaches}
 use Rattle.review.specs.Agreement.{number, Reviewed}
 use Rattle.evidence.specs.declared.door.Evidence.{Evidence}
@@ -58,7 +58,7 @@ pub record HoldsEvidence (commands lengths schedule room : List ℕ) (r : Eviden
 
 -- Tables and rooms pass.
 pub record Admissible (commands lengths relation generations room : List ℕ) : Type 0 where
-  pub admitted : refusal commands lengths (length relation) (length generations) .number ≡ 0
+  pub admitted : reviewRefusal commands lengths (length relation) (length generations) .number ≡ 0
   pub fits : evidenceRoom (rows commands) ≤ length room
 
 -- Nothing was done.

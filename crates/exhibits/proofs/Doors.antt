@@ -11,7 +11,7 @@ use Rattle.tables.specs.Rows.{rows}
 use Rattle.relation.specs.Table.{related}
 use Rattle.sheet.specs.declared.Sheet.{Sheet}
 use Rattle.sheet.specs.Sheet.{keptPairs, firstKept}
-use Rattle.rooms.specs.Refusals.{refusal}
+use Rattle.rooms.specs.Refusals.{reviewRefusal}
 use Rattle.rooms.specs.Rooms.{numberAt, Roomy}
 use Rattle.rooms.proofs.Refusals.{admitted}
 use Rattle.exhibits.specs.Exhibits.{reuseExhibit, raceExhibits, exhibits, exhibited}
@@ -25,11 +25,11 @@ module _ {r : Bool} {x : ℕ} (A : r ≡ eqb x 0) where
   said-refused e = eqb-false x 0 (sym A ∙ not-true r e)
 
 module _ (commands lengths generations relation : List ℕ) where
-  pub exhibited-none : refusal commands lengths (length relation) (length generations) .number ≢ 0 → (n : ℕ) (s : Sheet) → exhibited commands lengths generations relation n s ≡ []
+  pub exhibited-none : reviewRefusal commands lengths (length relation) (length generations) .number ≢ 0 → (n : ℕ) (s : Sheet) → exhibited commands lengths generations relation n s ≡ []
   unfolding exhibited
   exhibited-none e n s = rw (ne-eqb _ 0 e)
 
-  module _ (z : refusal commands lengths (length relation) (length generations) .number ≡ 0) where
+  module _ (z : reviewRefusal commands lengths (length relation) (length generations) .number ≡ 0) where
     pub roomy : Roomy commands lengths generations relation
     roomy =
         let a = admitted commands lengths (length relation) (length generations) z in

@@ -9,7 +9,7 @@ use Rattle.relation.specs.Table.{related}
 use Rattle.sheet.specs.declared.Pair.{Pair}
 use Rattle.sheet.specs.declared.Sheet.{Sheet}
 use Rattle.sheet.specs.Sheet.{keptPairs, firstKept}
-use Rattle.rooms.specs.Refusals.{refusal}
+use Rattle.rooms.specs.Refusals.{reviewRefusal}
 use Rattle.rooms.specs.Rooms.{numberAt}
 use Rattle.replay.specs.Writer.{apartSchedule}
 use Rattle.wording.specs.declared.Shown.{Shown}
@@ -48,5 +48,5 @@ exhibits commands lengths g ρ n s =
 -- over lent rooms; where tables or rooms are refused there are no exhibits
 unfoldable pub exhibited : (commands lengths generations relation : List ℕ) → ℕ → Sheet → List ℕ
 exhibited commands lengths generations relation n s =
-    cond (eqb (refusal commands lengths (length relation) (length generations) .number) 0)
+    cond (eqb (reviewRefusal commands lengths (length relation) (length generations) .number) 0)
     (exhibits commands lengths (numberAt generations) (related relation (rows commands)) n s) []

@@ -33,7 +33,7 @@ use Rattle.faults.specs.declared.faults.Fault.the-variants.{Reuse, Race}
 use Rattle.findings.specs.declared.finding.Finding.{Finding}
 use Rattle.faults.specs.Faults.{pairOf, faults}
 use Rattle.sheet.specs.Sheet.{mostKept, pair, firsts, sheetOf}
-use Rattle.rooms.specs.Refusals.{refusal}
+use Rattle.rooms.specs.Refusals.{reviewRefusal}
 use Rattle.findings.specs.Findings.{firstPair, orPairs, faultTold, faultPairs}
 use Rattle.review.specs.Judge.{generationsBy, reaches, verdictOf}
 use Rattle.review.specs.Agreement.{number, Reviewed}
@@ -41,6 +41,7 @@ use Rattle.rooms.proofs.Refusals.{admitted, refused-tables, refused-none, refus
 use Rattle.faults.proofs.Searched.{faults-few}
 use Rattle.faults.proofs.Pairs.{in-order}
 use Rattle.review.proofs.Reviews.{refused-refusal, fault-fills}
+use Rattle.review.proofs.Telling.{verdict-is, sheet-is}
 
 -- ---- pairs: no number is above the limit of rows
 
@@ -104,7 +105,7 @@ module _ (commands lengths σ : List ℕ) (relation room : ℕ) where
   told = verdictOf commands lengths σ relation room
 
   abbrev refusal : Told
-  refusal = refusal commands lengths relation room
+  refusal = reviewRefusal commands lengths relation room
 
   abbrev ending : Told
   ending = judged lengths (played commands lengths σ)
@@ -187,15 +188,15 @@ pub finding-small : {commands lengths σ relation room : List ℕ} {r : Finding}
     → Reviewed commands lengths σ relation room r relation′ room′ → SmallNumbers r
 unfolding sheetOf
 finding-small {commands} {lengths} {σ} {relation} {room} {r} R =
-    let e = R .demand₂ .verdict in
+    let e = verdict-is (R .demand₂) in
     let P = subst Placed (sym e) (told-placed commands lengths σ (length relation) (length room)) in
     let (t, p) = ⊎-elim by (λ f. subst SmallSheet (sym (R .demand₁ .empty f)) empty-fits) (split (fills (number r))) in
     record { place = P .place; also = P .also; total = t; pairs = p }
   where
     by : fills (number r) ≡ true → SmallSheet (r .sheet)
     by f =
-        let h : fills (verdictOf commands lengths σ (length relation) (length room) .number) ≡ true = subst (λ (t : Told). fills (t .number) ≡ true) (R .demand₂ .verdict) f in
-        subst SmallSheet (sym (R .demand₂ .sheet f))
+        let h : fills (verdictOf commands lengths σ (length relation) (length room) .number) ≡ true = subst (λ (t : Told). fills (t .number) ≡ true) (verdict-is (R .demand₂)) f in
+        subst SmallSheet (sym (sheet-is (R .demand₂) f))
         (pairs-few commands lengths σ (length relation) (length room) h, pairs-small commands lengths σ (length relation) (length room) h)
 
 -- ---- rooms for the longest tables
@@ -206,7 +207,7 @@ words-most m l = mul-le-mul l (omega arith)
 
 module _ (commands lengths : List ℕ) where
   -- have room for all that pass
-  pub full-rooms : checked commands lengths .number ≡ 0 → refusal commands lengths (words mostRows) mostRows ≡ tell 0 0 0
+  pub full-rooms : checked commands lengths .number ≡ 0 → reviewRefusal commands lengths (words mostRows) mostRows ≡ tell 0 0 0
   full-rooms e =
       let few = passes-zero commands lengths e .few-rows in
       sym (refused-none commands lengths (words mostRows) mostRows e (words-most (rows commands) few) few)

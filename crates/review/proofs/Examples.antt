@@ -21,7 +21,7 @@ use Rattle.steps.specs.Ending.{ended, judged}
 use Rattle.sheet.specs.Sheet.{sheetOf}
 use Rattle.faults.specs.Faults.{succeeds, reuse, conflict, race, alongRow, allRows, faults}
 use Rattle.rooms.specs.Short.{firstShort}
-use Rattle.rooms.specs.Refusals.{refusal}
+use Rattle.rooms.specs.Refusals.{reviewRefusal}
 use Rattle.findings.specs.Findings.{faultTold}
 use Rattle.verdicts.specs.Verdicts.{tell, numbered}
 use Rattle.verdicts.specs.declared.Told.{Told}
@@ -29,12 +29,13 @@ use Rattle.verdicts.specs.FirstTold.{orElse}
 use Rattle.review.specs.Judge.{verdictOf, generationsBy, reaches}
 use Rattle.review.specs.Agreement.{Review, SameFile, Unrefused}
 use Rattle.review.specs.Examples.{examples, all, same, word, below, holds, fourSyncs, oneEach, TenDiffers}
+use Rattle.review.proofs.Telling.{verdict-is}
 
 pub every : all holds examples ≡ true
 unfolding all holds examples same word below
     mostRows mostThreads addresses barriers mostCount total firstRow threadOf lowest rowKeeps firstBad checked
     rounds width edge reach counted registration start held hasLeft mayStep allowed registering running stepped oneOn goOn begun played ended sheetOf
-    succeeds reuse conflict race alongRow allRows faults firstShort refusal judged verdictOf
+    succeeds reuse conflict race alongRow allRows faults firstShort reviewRefusal judged verdictOf
 every = refl
 
 -- what the definitions tell of C, by two schedules
@@ -50,7 +51,7 @@ two-told = (refl, refl)
 
 is-told : (r : Review fourSyncs oneEach) → Unrefused r → numbered (r .found .verdict) ≡ told (r .schedule)
 unfolding verdictOf
-is-told r p = rw p at (r .meets .demand₂ .verdict)
+is-told r p = rw p at (verdict-is (r .meets .demand₂))
 
 pub ten-differs : TenDiffers
 ten-differs a b p q e f =

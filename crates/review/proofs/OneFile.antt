@@ -27,7 +27,7 @@ use Rattle.verdicts.proofs.FirstTold.{or-first, or-second}
 use Rattle.replay.proofs.Plays.{clean-through}
 use Rattle.replay.proofs.Judged.{judged-ending}
 use Rattle.programs.proofs.Reaching.{reaches-same}
-use Rattle.rooms.specs.Refusals.{refusal}
+use Rattle.rooms.specs.Refusals.{reviewRefusal}
 use Rattle.rooms.proofs.Refusals.{Admitted, admitted}
 use Rattle.happens.specs.HappensBefore.{Reached}
 use Rattle.happens.proofs.Reaching.{same-reached}
@@ -39,6 +39,7 @@ use Rattle.review.specs.Agreement.{number, Review, OneFile, OneForAll}
 use Rattle.review.proofs.Rooms.{put-front}
 use Rattle.review.proofs.Judging.{told, judges}
 use Rattle.review.proofs.Reviews.{refused-refusal}
+use Rattle.review.proofs.Telling.{verdict-is, sheet-is}
 
 -- what is told first and does not fill the rooms is 0
 first-zero : (a b : Told) → (a .number ≢ 0 → fills (a .number) ≡ false) → settles (orElse a b .number) ≡ true → a .number ≡ 0
@@ -49,11 +50,11 @@ first-zero a b f s =
 -- ---- the verdict of one schedule
 
 -- what is told past refusals 1 to 4
-past-refusal : (commands lengths σ : List ℕ) (relation room : ℕ) → refusal commands lengths relation room .number ≡ 0
+past-refusal : (commands lengths σ : List ℕ) (relation room : ℕ) → reviewRefusal commands lengths relation room .number ≡ 0
     → verdictOf commands lengths σ relation room
     ≡ orElse (judged lengths (played commands lengths σ)) (faultTold commands lengths (generationsBy commands lengths σ) (reaches commands lengths σ))
 unfolding verdictOf
-past-refusal commands lengths σ relation room pass = sym (or-second (refusal commands lengths relation room) _ pass)
+past-refusal commands lengths σ relation room pass = sym (or-second (reviewRefusal commands lengths relation room) _ pass)
 
 -- a schedule gets 0 or 11, in rooms so long
 pub record Settling (commands lengths σ : List ℕ) (relation room : ℕ) : Type 0 where
@@ -61,7 +62,7 @@ pub record Settling (commands lengths σ : List ℕ) (relation room : ℕ) : Typ
 
 module _ {commands lengths σ : List ℕ} {relation room : ℕ} (S : Settling commands lengths σ relation room) where
   abbrev refusal : Told
-  refusal = refusal commands lengths relation room
+  refusal = reviewRefusal commands lengths relation room
 
   abbrev faulty : Told
   faulty = faultTold commands lengths (generationsBy commands lengths σ) (reaches commands lengths σ)
@@ -90,7 +91,7 @@ module _ {commands lengths σ : List ℕ} {relation room : ℕ} (S : Settling co
       judged-told ∙ sym (or-second j faulty (first-zero j faulty (ending-unfilled (j .number) (judged-ending (admits .keeps) σ)) settled-told))
 
   -- any other that is legal and complete gets 0 or 11, too, in rooms that pass
-  pub complete-settles : {τ : List ℕ} {relation₂ room₂ : ℕ} → Complete commands lengths τ → refusal commands lengths relation₂ room₂ .number ≡ 0
+  pub complete-settles : {τ : List ℕ} {relation₂ room₂ : ℕ} → Complete commands lengths τ → reviewRefusal commands lengths relation₂ room₂ .number ≡ 0
       → Settling commands lengths τ relation₂ room₂
   complete-settles {τ} {relation₂} {room₂} c pass =
       let K = admits .keeps in
@@ -135,7 +136,7 @@ module _ {commands lengths σ τ : List ℕ} {relation room relation₂ room₂ 
 
 module _ {commands lengths : List ℕ} (r : Review commands lengths) (s : settles (number (r .found)) ≡ true) where
   pub settling : Settling commands lengths (r .schedule) (length (r .relation)) (length (r .generations))
-  settling = record { settled = subst (λ (t : Told). settles (t .number) ≡ true) (r .meets .demand₂ .verdict) s }
+  settling = record { settled = subst (λ (t : Told). settles (t .number) ≡ true) (verdict-is (r .meets .demand₂)) s }
 
   filled : fills (number (r .found)) ≡ true
   filled = settled-fills (number (r .found)) s
@@ -160,8 +161,8 @@ module _ {commands lengths : List ℕ} where
       let sb = settling b t in
       let alike = one-generations sa sb in
       record {
-        verdict = a .meets .demand₂ .verdict ∙ one-told sa sb ∙ sym (b .meets .demand₂ .verdict);
-        sheet = a .meets .demand₂ .sheet (filled a s) ∙ ap sheetOf (one-pairs sa sb) ∙ sym (b .meets .demand₂ .sheet (filled b t));
+        verdict = verdict-is (a .meets .demand₂) ∙ one-told sa sb ∙ sym (verdict-is (b .meets .demand₂));
+        sheet = sheet-is (a .meets .demand₂) (filled a s) ∙ ap sheetOf (one-pairs sa sb) ∙ sym (sheet-is (b .meets .demand₂) (filled b t));
         relation = λ p l.
             let h : p < words (rows commands) = omega arith in
             holds-same (a .relation) (b .relation) (a .relation′) (b .relation′) (rows commands) _ (a .in-words) (b .in-words) (reached a s)
@@ -174,4 +175,4 @@ module _ {commands lengths : List ℕ} where
   pub one-for-all : OneForAll commands lengths
   one-for-all a b s c pass =
       let T = complete-settles (settling a s) c (ap (λ (t : Told). t .number) pass) in
-      one-file a b s (subst (λ (t : Told). settles (t .number) ≡ true) (sym (b .meets .demand₂ .verdict)) (T .settled))
+      one-file a b s (subst (λ (t : Told). settles (t .number) ≡ true) (sym (verdict-is (b .meets .demand₂))) (T .settled))

@@ -23,7 +23,7 @@ use Rattle.findings.specs.declared.finding.Finding.{Finding}
 use Rattle.steps.specs.Going.{played}
 use Rattle.replay.specs.Doors.{Replays}
 use Rattle.steps.specs.Ending.{judged}
-use Rattle.rooms.specs.Refusals.{refusal, sizeRefusal}
+use Rattle.rooms.specs.Refusals.{reviewRefusal, sizeRefusal}
 use Rattle.rooms.specs.Rooms.{numberAt}
 use Rattle.happens.specs.HappensBefore.{Reached}
 use Rattle.happens.specs.Promise.{PutsHappensBefore}
@@ -40,11 +40,12 @@ use Rattle.rooms.proofs.Refusals.{Admitted, refused-small, admitted, admitted-s
 use Rattle.happens.proofs.Reaching.{same-reached, related-reaches}
 use Rattle.faults.proofs.Pairs.{same-faults}
 use Rattle.review.proofs.Judging.{told, judges}
+use Rattle.review.proofs.Telling.{verdict-same, pairs-same}
 
 -- ---- the numbers of a refusal and of faults
 
-pub refused-refusal : (commands lengths : List ℕ) (relation room : ℕ) → let n = refusal commands lengths relation room .number in n ≢ 0 → isRefusal n ≡ true
-refused-refusal commands lengths relation room = few-refusal (refusal commands lengths relation room .number) (refused-small commands lengths relation room)
+pub refused-refusal : (commands lengths : List ℕ) (relation room : ℕ) → let n = reviewRefusal commands lengths relation room .number in n ≢ 0 → isRefusal n ≡ true
+refused-refusal commands lengths relation room = few-refusal (reviewRefusal commands lengths relation room .number) (refused-small commands lengths relation room)
 
 pub fault-fills : (ps qs : List Pair) → fills (firstPair 10 ps (firstPair 11 qs (tell 0 0 0)) .number) ≡ true
 fault-fills (p ∷ ps) qs = refl
@@ -58,7 +59,7 @@ module _ (commands lengths σ relation room : List ℕ) where
   verdicts = verdictOf commands lengths σ (length relation) (length room)
 
   abbrev refusal : Told
-  refusal = refusal commands lengths (length relation) (length room)
+  refusal = reviewRefusal commands lengths (length relation) (length room)
 
   -- demand 3 follows from the verdict
   third : (v : Verdict) → numbered v ≡ verdicts → refusal ≡ tell 0 0 0 → Judges commands lengths σ (numbered v .number)
@@ -74,7 +75,7 @@ module _ (commands lengths σ relation room : List ℕ) where
       record {
         demand₁ =
             record {
-              told = t;
+              verdict = t;
               empty = λ _. refl;
               relation-kept = λ _. refl;
               generations-kept = λ _. refl;
@@ -82,7 +83,7 @@ module _ (commands lengths σ relation room : List ℕ) where
               generations-beyond = λ p h. refl;
             };
         demand₂ =
-            record { verdict = e; sheet = λ t. clashing t f; relation-holds = λ t. clashing t f; generations-hold = λ t. clashing t f };
+            record { verdict = λ ρ T. e ∙ verdict-same commands lengths σ ρ T _ _; sheet = λ ρ T t. clashing t f; relation-holds = λ t. clashing t f; generations-hold = λ t. clashing t f };
         demand₃ = third v e;
       }
 
@@ -155,7 +156,7 @@ module _ (commands lengths σ relation room : List ℕ) where
             record {
               demand₁ =
                   record {
-                    told = fills-verdict (number r) f;
+                    verdict = fills-verdict (number r) f;
                     empty = λ z. clashing f z;
                     relation-kept = λ z. clashing f z;
                     generations-kept = λ z. clashing f z;
@@ -163,6 +164,6 @@ module _ (commands lengths σ relation room : List ℕ) where
                     generations-beyond = λ p h. ap (λ (r : List ℕ). getD r p 0) is-put ∙ put-beyond (played commands lengths σ .generations) room (rows commands) fits p h;
                   };
               demand₂ =
-                  record { verdict = q; sheet = λ _. F .sheet ∙ rw (eq-eqb _ 0 once-more, found Reuse, found Race); relation-holds = λ _. reached; generations-hold = λ _. is-put };
+                  record { verdict = λ ρ T. q ∙ verdict-same commands lengths σ ρ T _ _; sheet = λ ρ T _. F .sheet ∙ rw (eq-eqb _ 0 once-more, found Reuse, found Race) ∙ ap sheetOf (pairs-same commands lengths σ ρ T); relation-holds = λ _. reached; generations-hold = λ _. is-put };
               demand₃ = third (r .verdict) q;
             }

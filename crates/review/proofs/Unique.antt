@@ -14,11 +14,12 @@ use Rattle.relation.proofs.Rooms.{holds-one}
 use Rattle.sheet.specs.declared.Sheet.{Sheet}
 use Rattle.findings.specs.declared.finding.Finding.{Finding}
 use Rattle.review.specs.Agreement.{number, Reviewed}
+use Rattle.review.proofs.Telling.{verdict-is, sheet-is}
 
 module _ (commands lengths σ relation room : List ℕ) (a b : Finding) {ra ga rb gb : List ℕ} (wa : Words ra) (wb : Words rb)
     (A : Reviewed commands lengths σ relation room a ra ga) (B : Reviewed commands lengths σ relation room b rb gb) where
   same-verdict : a .verdict ≡ b .verdict
-  same-verdict = numbered-one _ _ (A .demand₂ .verdict ∙ sym (B .demand₂ .verdict))
+  same-verdict = numbered-one _ _ (verdict-is (A .demand₂) ∙ sym (verdict-is (B .demand₂)))
 
   same-number : number a ≡ number b
   same-number = ap (λ (v : Verdict). numbered v .number) same-verdict
@@ -29,7 +30,7 @@ module _ (commands lengths σ relation room : List ℕ) (a b : Finding) {ra ga r
       ⊎-elim
       (λ (t : fills (number a) ≡ true).
       let u : fills (number b) ≡ true = ap fills (sym same-number) ∙ t in (
-        ap₂ (λ (v : Verdict) (s : Sheet). record { verdict = v; sheet = s }) same-verdict (A .demand₂ .sheet t ∙ sym (B .demand₂ .sheet u)),
+        ap₂ (λ (v : Verdict) (s : Sheet). record { verdict = v; sheet = s }) same-verdict (sheet-is (A .demand₂) t ∙ sym (sheet-is (B .demand₂) u)),
         holds-one _ _ _ _ _ wa wb (A .demand₂ .relation-holds t) (B .demand₂ .relation-holds u),
         A .demand₂ .generations-hold t ∙ sym (B .demand₂ .generations-hold u),
       ))

@@ -1,6 +1,6 @@
 -- What a review promises: the user's three demands; and what follows from them for two reviews of one program.
 use mathlib.Core.Path.{_≡_}
-use mathlib.Core.Bool.{true, false}
+use mathlib.Core.Bool.{Bool, true, false}
 use mathlib.Core.List.{List, []}
 use mathlib.Core.Logic.{_↔_, _≢_}
 use Prim.Native.Nat.{ℕ, _≤_, _<_}
@@ -15,9 +15,9 @@ use Rattle.steps.specs.Going.{played}
 use Rattle.happens.specs.HappensBefore.{Reached}
 use Rattle.sheet.specs.Sheet.{sheetOf}
 use Rattle.faults.specs.Faults.{conflict}
-use Rattle.rooms.specs.Refusals.{refusal}
+use Rattle.rooms.specs.Refusals.{reviewRefusal}
 use Rattle.findings.specs.Findings.{faultPairs}
-use Rattle.review.specs.Judge.{put, verdictOf, generationsBy, reaches}
+use Rattle.review.specs.Judge.{put, generationsBy, TellsReach, verdictBy, reaches}
 use Rattle.replay.specs.Schedules.{Complete, Agree, InOneOrder, Disagree}
 
 -- the number of a review's verdict
@@ -27,7 +27,7 @@ number r = numbered (r .verdict) .number
 -- Demand 1: a verdict for every input. Unless it is 0, 10 or 11, the sheet is empty and the lent rooms keep every number they held; beyond
 -- what they are filled with they keep it always.
 pub record Safe (commands relation generations : List ℕ) (r : Finding) (relation′ generations′ : List ℕ) : Type 0 where
-  pub told : isVerdict (number r) ≡ true
+  pub verdict : isVerdict (number r) ≡ true
   pub empty : fills (number r) ≡ false → r .sheet ≡ sheetOf []
   pub relation-kept : fills (number r) ≡ false → relation′ ≡ relation
   pub generations-kept : fills (number r) ≡ false → generations′ ≡ generations
@@ -35,14 +35,18 @@ pub record Safe (commands relation generations : List ℕ) (r : Finding) (relati
   pub generations-beyond : (p : ℕ) → rows commands ≤ p → getD generations′ p 0 ≡ getD generations p 0
 
 -- Demand 2: the verdict with its place, the pairs, their order and their total, every bit of happens-before, and each generation are those
--- of the definitions.
+-- of the definitions, for every table that tells what reaches what; there is one (`RoundsTell`).
 pub record Exact (commands lengths schedule relation generations : List ℕ) (r : Finding) (relation′ generations′ : List ℕ) : Type 0 where
-  pub verdict : numbered (r .verdict) ≡ verdictOf commands lengths schedule (length relation) (length generations)
-  pub sheet :
-      fills (number r) ≡ true
-      → r .sheet ≡ sheetOf (faultPairs commands lengths (generationsBy commands lengths schedule) (reaches commands lengths schedule))
+  pub verdict : (ρ : ℕ → ℕ → Bool) → TellsReach commands lengths schedule ρ
+      → numbered (r .verdict) ≡ verdictBy commands lengths schedule ρ (length relation) (length generations)
+  pub sheet : (ρ : ℕ → ℕ → Bool) → TellsReach commands lengths schedule ρ → fills (number r) ≡ true
+      → r .sheet ≡ sheetOf (faultPairs commands lengths (generationsBy commands lengths schedule) ρ)
   pub relation-holds : fills (number r) ≡ true → Reached commands lengths (generationsBy commands lengths schedule) relation relation′
   pub generations-hold : fills (number r) ≡ true → generations′ ≡ put (played commands lengths schedule .generations) (rows commands) generations
+
+-- The table of Warshall's rounds tells what reaches what.
+abbrev pub RoundsTell : Type 0
+RoundsTell = (commands lengths schedule : List ℕ) → TellsReach commands lengths schedule (reaches commands lengths schedule)
 
 -- Every two conflicting accesses stand in the same order in all legal complete schedules.
 abbrev pub SameOrder : List ℕ → List ℕ → Type 0
@@ -61,7 +65,7 @@ pub record Judges (commands lengths schedule : List ℕ) (n : ℕ) : Type 0 wher
 pub record Reviewed (commands lengths schedule relation generations : List ℕ) (r : Finding) (relation′ generations′ : List ℕ) : Type 0 where
   pub demand₁ : Safe commands relation generations r relation′ generations′
   pub demand₂ : Exact commands lengths schedule relation generations r relation′ generations′
-  pub demand₃ : refusal commands lengths (length relation) (length generations) ≡ tell 0 0 0 → Judges commands lengths schedule (number r)
+  pub demand₃ : reviewRefusal commands lengths (length relation) (length generations) ≡ tell 0 0 0 → Judges commands lengths schedule (number r)
 
 -- ---- one program, one file: request 2026-10
 
@@ -87,7 +91,7 @@ pub record SameFile {commands lengths : List ℕ} (a b : Review commands lengths
 
 -- its tables and rooms passed refusals 1 to 4
 abbrev pub Unrefused : {commands lengths : List ℕ} → Review commands lengths → Type 0
-Unrefused {commands} {lengths} r = refusal commands lengths (length (r .relation)) (length (r .generations)) ≡ tell 0 0 0
+Unrefused {commands} {lengths} r = reviewRefusal commands lengths (length (r .relation)) (length (r .generations)) ≡ tell 0 0 0
 
 module _ (commands lengths : List ℕ) where
   -- Any two reviews of one program that both end in 0 or 11 leave one file, whatever schedules they were offered and whatever rooms they were lent.

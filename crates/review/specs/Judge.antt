@@ -1,15 +1,18 @@
 -- The verdict, in the order tested.
-use mathlib.Core.Bool.{Bool}
+use mathlib.Core.Path.{_≡_}
+use mathlib.Core.Logic.{_↔_}
+use mathlib.Core.Bool.{Bool, true}
 use mathlib.Core.List.{List, _++_}
-use Prim.Native.Nat.{ℕ}
+use Prim.Native.Nat.{ℕ, _<_}
 use lib.ListN.{take, drop}
 use Rattle.verdicts.specs.declared.Told.{Told}
-use Rattle.schedules.specs.HappensBefore.{reach}
+use Rattle.tables.specs.Rows.{rows}
+use Rattle.schedules.specs.HappensBefore.{Reaches, reach}
 use Rattle.verdicts.specs.FirstTold.{orElse}
 use Rattle.steps.specs.Going.{played, generation}
 use Rattle.steps.specs.Ending.{judged}
 use Rattle.programs.specs.Program.{program}
-use Rattle.rooms.specs.Refusals.{refusal}
+use Rattle.rooms.specs.Refusals.{reviewRefusal}
 use Rattle.findings.specs.Findings.{faultTold}
 
 -- the first m numbers are put into a room; the rest is kept
@@ -17,15 +20,25 @@ abbrev pub put : List ℕ → ℕ → List ℕ → List ℕ
 put numbers m room = take m numbers ++ drop m room
 
 module _ (commands lengths schedule : List ℕ) where
-  -- the generations of a schedule's commands, and what reaches what over them
+  -- the generations of a schedule's commands
   abbrev pub generationsBy : ℕ → ℕ
   generationsBy = generation (played commands lengths schedule)
 
+  -- A table of commands tells what reaches what over these generations: exactly what stands in the least relation.
+  pub record TellsReach (ρ : ℕ → ℕ → Bool) : Type 0 where
+    pub exactly : (x y : ℕ) → x < rows commands → y < rows commands → (ρ x y ≡ true) ↔ Reaches (program commands lengths) generationsBy x y
+
+  -- The verdict, of tables, a schedule, a table of what reaches what, and the lengths of the two rooms.
+  abbrev pub verdictBy : (ℕ → ℕ → Bool) → (relationLength generationLength : ℕ) → Told
+  verdictBy ρ relationLength generationLength =
+      orElse (reviewRefusal commands lengths relationLength generationLength)
+      (orElse (judged lengths (played commands lengths schedule)) (faultTold commands lengths generationsBy ρ))
+
+  -- ---- as it can be computed
+
+  -- One such table, by Warshall's rounds (`RoundsTell` of Agreement), and the verdict by it.
   abbrev pub reaches : ℕ → ℕ → Bool
   reaches = reach (program commands lengths) generationsBy
 
-  -- The verdict, of tables, a schedule and the lengths of the two rooms.
   unfoldable pub verdictOf : ℕ → ℕ → Told
-  verdictOf relationLength generationLength =
-      orElse (refusal commands lengths relationLength generationLength)
-      (orElse (judged lengths (played commands lengths schedule)) (faultTold commands lengths generationsBy reaches))
+  verdictOf = verdictBy reaches

@@ -15,7 +15,7 @@ use Rattle.rules.proofs.Checked.{passed, check-first, check-second}
 use Rattle.verdicts.proofs.FirstTold.{or-first, or-second, or-either, or-zero}
 use Rattle.relation.specs.Table.{words}
 use Rattle.rooms.specs.Short.{roomOf, firstShort}
-use Rattle.rooms.specs.Refusals.{reviewRooms, refusal, sizeRefusal}
+use Rattle.rooms.specs.Refusals.{reviewRooms, reviewRefusal, sizeRefusal}
 use Rattle.rooms.specs.Rooms.{Ample}
 use Rattle.rooms.proofs.Rooms.{more-long, all-long, first-either, none-either}
 
@@ -69,13 +69,13 @@ module _ (commands : List ℕ) (relationLength generationLength : ℕ) where
 -- the check of tables said v
 module _ (commands lengths : List ℕ) (v : Verdict) {told : Told} (check : numbered v ≡ checked commands lengths) (said : told ≡ numbered v)
     (relationLength generationLength : ℕ) where
-  pub refuses-tables : told .number ≢ 0 → numbered v ≡ refusal commands lengths relationLength generationLength
-  unfolding refusal
+  pub refuses-tables : told .number ≢ 0 → numbered v ≡ reviewRefusal commands lengths relationLength generationLength
+  unfolding reviewRefusal
   refuses-tables n = check-first commands lengths v check said _ n
 
   -- of tables that pass only the rooms can be refused
-  pub refuses-rooms : told .number ≡ 0 → sizeRefusal commands relationLength generationLength ≡ refusal commands lengths relationLength generationLength
-  unfolding refusal
+  pub refuses-rooms : told .number ≡ 0 → sizeRefusal commands relationLength generationLength ≡ reviewRefusal commands lengths relationLength generationLength
+  unfolding reviewRefusal
   refuses-rooms e =
       let K = passed commands lengths v check said e in
       sym (sizes-shorts commands relationLength generationLength (good-commands commands (K .whole) (K .few-rows)))
@@ -90,29 +90,29 @@ pub record Admitted (commands lengths : List ℕ) (relationLength generationLeng
 
 module _ (commands lengths : List ℕ) (relationLength generationLength : ℕ) where
   -- 1 to 3, as they are without rooms
-  pub refused-tables : checked commands lengths .number ≢ 0 → checked commands lengths ≡ refusal commands lengths relationLength generationLength
-  unfolding refusal
+  pub refused-tables : checked commands lengths .number ≢ 0 → checked commands lengths ≡ reviewRefusal commands lengths relationLength generationLength
+  unfolding reviewRefusal
   refused-tables n = or-first (checked commands lengths) (shorts commands relationLength generationLength) n
 
   -- tables and rooms that pass
   pub refused-none : checked commands lengths .number ≡ 0 → words (rows commands) ≤ relationLength → rows commands ≤ generationLength
-      → tell 0 0 0 ≡ refusal commands lengths relationLength generationLength
-  unfolding refusal
+      → tell 0 0 0 ≡ reviewRefusal commands lengths relationLength generationLength
+  unfolding reviewRefusal
   refused-none e r g = none-shorts commands relationLength generationLength r g ∙ or-second (checked commands lengths) (shorts commands relationLength generationLength) e
 
   -- what holds of 1 to 3, of 4 with each digit, and of 0, holds of what is told
   pub refused-either : (P : Told → Type 0) → P (checked commands lengths) → P (tell 4 0 0) → P (tell 4 1 0) → P (tell 0 0 0)
-      → P (refusal commands lengths relationLength generationLength)
-  unfolding refusal
+      → P (reviewRefusal commands lengths relationLength generationLength)
+  unfolding reviewRefusal
   refused-either P c p q z =
       or-either P (checked commands lengths) (shorts commands relationLength generationLength) c (λ _. shorts-either commands relationLength generationLength P p q z)
 
-  pub refused-small : refusal commands lengths relationLength generationLength .number ≤ 4
+  pub refused-small : reviewRefusal commands lengths relationLength generationLength .number ≤ 4
   refused-small = refused-either (λ (t : Told). t .number ≤ 4) (omega (arith, checked-small commands lengths)) (omega arith) (omega arith) (omega arith)
 
-  module _ (e : refusal commands lengths relationLength generationLength .number ≡ 0) where
+  module _ (e : reviewRefusal commands lengths relationLength generationLength .number ≡ 0) where
     pub admitted : Admitted commands lengths relationLength generationLength
-    unfolding refusal
+    unfolding reviewRefusal
     admitted =
         let (a, b) = or-zero (checked commands lengths) (shorts commands relationLength generationLength) e in
         let (r, g) = long-rooms commands relationLength generationLength b in
@@ -120,7 +120,7 @@ module _ (commands lengths : List ℕ) (relationLength generationLength : ℕ) w
 
     -- nor are their lengths refused
     pub admitted-sizes : sizeRefusal commands relationLength generationLength .number ≡ 0
-    unfolding refusal
+    unfolding reviewRefusal
     admitted-sizes =
         let K = admitted .keeps in
         let (_, b) = or-zero (checked commands lengths) (shorts commands relationLength generationLength) e in

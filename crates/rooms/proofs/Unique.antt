@@ -8,14 +8,14 @@ use Rattle.verdicts.specs.Verdicts.{numbered}
 use Rattle.verdicts.specs.declared.Verdict.{Verdict}
 use Rattle.verdicts.proofs.Verdicts.{numbered-one}
 use Rattle.rooms.specs.Short.{firstShort}
-use Rattle.rooms.specs.Refusals.{refusal, sizeRefusal}
+use Rattle.rooms.specs.Refusals.{reviewRefusal, sizeRefusal}
 
-pub refuse-one : (commands lengths : List ℕ) (relation generations : ℕ) (a b : Verdict) → numbered a ≡ refusal commands lengths relation generations
-    → numbered b ≡ refusal commands lengths relation generations → a ≡ b
+pub refuse-one : (commands lengths : List ℕ) (relation generations : ℕ) (a b : Verdict) → numbered a ≡ reviewRefusal commands lengths relation generations
+    → numbered b ≡ reviewRefusal commands lengths relation generations → a ≡ b
 refuse-one commands lengths relation generations a b A B = numbered-one a b (A ∙ sym B)
 
-pub admits-one : (commands lengths : List ℕ) (relation generations : ℕ) (a b : Bool) → a ≡ eqb (refusal commands lengths relation generations .number) 0
-    → b ≡ eqb (refusal commands lengths relation generations .number) 0 → a ≡ b
+pub admits-one : (commands lengths : List ℕ) (relation generations : ℕ) (a b : Bool) → a ≡ eqb (reviewRefusal commands lengths relation generations .number) 0
+    → b ≡ eqb (reviewRefusal commands lengths relation generations .number) 0 → a ≡ b
 admits-one commands lengths relation generations a b A B = A ∙ sym B
 
 pub refuse-sizes-one : (commands : List ℕ) (relation generations : ℕ) (a b : Verdict) → numbered a ≡ sizeRefusal commands relation generations

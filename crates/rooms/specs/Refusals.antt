@@ -15,8 +15,8 @@ abbrev pub reviewRooms : (m relationLength generationLength : ℕ) → List (Lis
 reviewRooms m relationLength generationLength = roomOf 0 (words m) relationLength ∷ roomOf 1 m generationLength ∷ []
 
 -- 1 to 4, of tables and the lengths of the two rooms
-unfoldable pub refusal : List ℕ → List ℕ → (relationLength generationLength : ℕ) → Told
-refusal commands lengths relationLength generationLength = orElse (checked commands lengths) (firstShort (reviewRooms (rows commands) relationLength generationLength))
+unfoldable pub reviewRefusal : List ℕ → List ℕ → (relationLength generationLength : ℕ) → Told
+reviewRefusal commands lengths relationLength generationLength = orElse (checked commands lengths) (firstShort (reviewRooms (rows commands) relationLength generationLength))
 
 -- 1 and 4, of how many numbers there are in the commands and in the two rooms: what stands in them is not looked at
 unfoldable pub sizeRefusal : List ℕ → (relationLength generationLength : ℕ) → Told

@@ -2,7 +2,7 @@
 ghost use mathlib.Core.Path.{_≡_};
 ghost use lib.Dec.{eqb};
 ghost use Rattle.verdicts.specs.Verdicts.{numbered};
-ghost use Rattle.rooms.specs.Refusals.{refusal, sizeRefusal};
+ghost use Rattle.rooms.specs.Refusals.{reviewRefusal, sizeRefusal};
 use crate::short::short_room;
 use relation::table_words;
 use rules::bad_commands;
@@ -32,7 +32,7 @@ pub fn refuse(
     relation_len: usize,
     generation_len: usize,
 ) -> Verdict
-    ensures { λ r. ⌜ numbered r ≡ refusal (now (commands .entry)) (now (lengths .entry)) relation_len generation_len ⌝ }
+    ensures { λ r. ⌜ numbered r ≡ reviewRefusal (now (commands .entry)) (now (lengths .entry)) relation_len generation_len ⌝ }
 {
     let verdict = check_tables(commands, lengths);
     if verdict.told().number != 0 {
@@ -43,7 +43,7 @@ pub fn refuse(
 
 // Are tables and rooms admitted, which is to say not refused? Callers that only go on, or not, are spared the verdict.
 pub fn admits(commands: &[u32], lengths: &[u32], relation_len: usize, generation_len: usize) -> bool
-    ensures { λ r. ⌜ r ≡ eqb (refusal (now (commands .entry)) (now (lengths .entry)) relation_len generation_len .number) 0 ⌝ }
+    ensures { λ r. ⌜ r ≡ eqb (reviewRefusal (now (commands .entry)) (now (lengths .entry)) relation_len generation_len .number) 0 ⌝ }
 {
     refuse(commands, lengths, relation_len, generation_len)
         .told()
