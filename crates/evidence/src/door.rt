@@ -95,13 +95,13 @@ fn review_shown(
 fn refuse_showing(
     commands: &[u32],
     lengths: &[u32],
-    relation_len: usize,
-    generation_len: usize,
+    wide: usize,
+    high: usize,
     given: usize,
 ) -> Verdict
-    ensures { λ r. ⌜ numbered r ≡ evidenceRefusal (now (commands .entry)) (now (lengths .entry)) relation_len generation_len given ⌝ }
+    ensures { λ r. ⌜ numbered r ≡ evidenceRefusal (now (commands .entry)) (now (lengths .entry)) wide high given ⌝ }
 {
-    let refusal = refuse(commands, lengths, relation_len, generation_len);
+    let refusal = refuse(commands, lengths, wide, high);
     if refusal.told().number != 0 {
         return refusal;
     }

@@ -28,7 +28,7 @@ use Rattle.steps.specs.declared.going.Replayed.{Replayed}
 use Rattle.steps.specs.State.{start}
 use Rattle.steps.specs.Step.{allowed, stepped}
 use Rattle.barriers.specs.Counting.{counted}
-use Rattle.steps.specs.Going.{ends, wentOn, goOn, begun, played}
+use Rattle.steps.specs.Going.{standing, wentOn, goOn, begun, played}
 use Rattle.barriers.proofs.Registering.{counted-more}
 use Rattle.steps.proofs.Entries.{one-on, stays-ended}
 use Rattle.programs.specs.Program.{program}
@@ -49,7 +49,7 @@ module _ {table lengths : List ℕ} (K : Keeps table lengths) where
     pub long : length g ≡ mostRows
     pub same : (c : ℕ) → c < rows table → getD g c 0 ≡ gens P H υ c
 
-  -- An entry t of σ, after the entries ρ, at which a replay that has come to υ ends: its state stands for the machine's there.
+  -- An entry t of σ, after the entries ρ, at which a replay that has come to υ standing: its state stands for the machine's there.
   pub record Entry (σ υ : List ℕ) (r : Replayed) (n : ℕ) : Type 0 where
     pub ρ : List ℕ
     pub t : ℕ
@@ -58,7 +58,7 @@ module _ {table lengths : List ℕ} (K : Keeps table lengths) where
     pub stands : Stands K (reverseAux ρ υ) (r .state)
     pub steps : r .steps ≡ n + length ρ
 
-  -- How a replay that has come to υ ends, with the entries σ left and n steps taken.
+  -- How a replay that has come to υ standing, with the entries σ left and n steps taken.
   pub data PlaysTo (σ υ : List ℕ) (r : Replayed) (n : ℕ) : Type 0 where
     through : Stands K (reverseAux σ υ) (r .state) → Gens (reverseAux σ υ) (r .generations) → r .verdict ≡ verdict.Clean → r .steps ≡ n + length σ → PlaysTo σ υ r n
     refused-at : (e : Entry σ υ r n) → ¬ Steps P H (reverseAux (e .ρ) υ) (e .t) → r .verdict ≡ verdict.NotAllowed (r .steps) → PlaysTo σ υ r n
@@ -99,9 +99,9 @@ module _ {table lengths : List ℕ} (K : Keeps table lengths) where
 
   -- one entry more goes on as its step says
   goes : (t : ℕ) (σ : List ℕ) (s : Replay) (g : List ℕ) (n : ℕ) {d : Did} {a : Replay} → stepped table lengths s t .did ≡ d → stepped table lengths s t .after ≡ a
-      → goOn table lengths (t ∷ σ) (ends s g n verdict.Clean) ≡ goOn table lengths σ (wentOn d a (ends s g n verdict.Clean))
+      → goOn table lengths (t ∷ σ) (standing s g n verdict.Clean) ≡ goOn table lengths σ (wentOn d a (standing s g n verdict.Clean))
   unfolding goOn
-  goes t σ s g n e f = ap (goOn table lengths σ) (one-on table lengths (ends s g n verdict.Clean) t refl e f)
+  goes t σ s g n e f = ap (goOn table lengths σ) (one-on table lengths (standing s g n verdict.Clean) t refl e f)
 
   -- the steps of a legal schedule are few, and the counter goes up
   counts-on : {υ : List ℕ} {s : Replay} {n : ℕ} → Stands K υ s → n ≡ length υ → counted n ≡ n + 1
@@ -110,33 +110,33 @@ module _ {table lengths : List ℕ} (K : Keeps table lengths) where
 
   -- an entry, where the entries after it are known to end
   plays-entry : (t : ℕ) (σ υ : List ℕ) (s : Replay) (g : List ℕ) (n : ℕ) → n ≡ length υ → Stands K υ s → Gens υ g
-      → ((s′ : Replay) (g′ : List ℕ) → Stands K (t ∷ υ) s′ → Gens (t ∷ υ) g′ → PlaysTo σ (t ∷ υ) (goOn table lengths σ (ends s′ g′ (n + 1) verdict.Clean)) (n + 1))
-      → PlaysTo (t ∷ σ) υ (goOn table lengths (t ∷ σ) (ends s g n verdict.Clean)) n
+      → ((s′ : Replay) (g′ : List ℕ) → Stands K (t ∷ υ) s′ → Gens (t ∷ υ) g′ → PlaysTo σ (t ∷ υ) (goOn table lengths σ (standing s′ g′ (n + 1) verdict.Clean)) (n + 1))
+      → PlaysTo (t ∷ σ) υ (goOn table lengths (t ∷ σ) (standing s g n verdict.Clean)) n
   unfolding here
   plays-entry t σ υ s g n c S G rest =
       ⊎-elim (λ e. let st = allowed-steps K S t e in by st (outcome K S t st))
       (λ f.
       let k = not-allowed K s t f in
-      let r = ends s g n (verdict.NotAllowed n) in
+      let r = standing s g n (verdict.NotAllowed n) in
       subst (λ (r : Replayed). PlaysTo (t ∷ σ) υ r n)
       (sym (goes t σ s g n (ap (λ (d : Stepped). d .did) k) (ap (λ (d : Stepped). d .after) k) ∙ stays-ended table lengths r (λ z. omega arith) σ))
       (refused-at (here t σ υ r n S refl) (λ st. clashing (steps-allowed K S t st) f) refl))
       (split (allowed lengths s t))
     where
-      by : Steps P H υ t → Outcome K υ s t → PlaysTo (t ∷ σ) υ (goOn table lengths (t ∷ σ) (ends s g n verdict.Clean)) n
+      by : Steps P H υ t → Outcome K υ s t → PlaysTo (t ∷ σ) υ (goOn table lengths (t ∷ σ) (standing s g n verdict.Clean)) n
       by st (ran q m S′) =
           subst (λ (r : Replayed). PlaysTo (t ∷ σ) υ r n) (sym (goes t σ s g n q refl))
           (later (rw (counts-on S c) (rest (stepped table lengths s t .after) _ S′ (gens-more υ t g G (command-row K S t st)))))
       by st (mismatched q k m) =
-          let r = ends s g n (verdict.Mismatch (at P H υ t)) in
+          let r = standing s g n (verdict.Mismatch (at P H υ t)) in
           subst (λ (r : Replayed). PlaysTo (t ∷ σ) υ r n) (sym (goes t σ s g n q k ∙ stays-ended table lengths r (λ z. omega arith) σ)) (mismatched-at (here t σ υ r n S refl) st m refl)
 
-  plays : (σ υ : List ℕ) (s : Replay) (g : List ℕ) (n : ℕ) → n ≡ length υ → Stands K υ s → Gens υ g → PlaysTo σ υ (goOn table lengths σ (ends s g n verdict.Clean)) n
+  plays : (σ υ : List ℕ) (s : Replay) (g : List ℕ) (n : ℕ) → n ≡ length υ → Stands K υ s → Gens υ g → PlaysTo σ υ (goOn table lengths σ (standing s g n verdict.Clean)) n
   unfolding goOn
   plays [] υ s g n c S G = through S G refl (omega arith)
   plays (t ∷ σ) υ s g n c S G = plays-entry t σ υ s g n c S G (λ s′ g′ S′ G′. plays σ (t ∷ υ) s′ g′ (n + 1) (omega arith) S′ G′)
 
-  -- how the replay of a schedule ends
+  -- how the replay of a schedule standing
   pub plays-all : (σ : List ℕ) → PlaysTo σ [] (played table lengths σ) 0
   unfolding played begun
   plays-all σ = plays σ [] start _ 0 refl (stands-start K) gens-start

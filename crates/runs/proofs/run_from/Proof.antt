@@ -16,7 +16,7 @@ abbrev μ-loop : tie.MeasureT-loop
 μ-loop code expressions lanes cells₀ steps stack₀ stand₀ taken₀ cells stack stand taken = steps - taken
 
 loop-holds : tie.Need-loop-holds Inv-loop μ-loop
-loop-holds c = going-start _ _ _ _ _ _ _ _ (c .before .before .before .before .before .before .pre) refl (c .before .start .kept .1 .1 .0) (c .before .start-warp .ensures)
+loop-holds c = going-start _ _ _ _ _ _ _ _ (c .before .before .before .before .before .before .pre) refl (c .before .start-warp .kept .1 .1 .0) (c .before .start-warp .ensures)
 
 returns : tie.Need-returns Inv-loop μ-loop
 returns c = told-by (c .ended .ensures) (run-spent _ _ _ _ _ _ _ _ _ (c .before .before .before .before .loop .inv) (c .before .before .if1 .taken) (c .before .if2 .taken))
@@ -50,7 +50,7 @@ loop-again c =
     let at-if1 = at-if2 .before in
     let at-loop = at-if1 .before .before in
     let at-pre = at-loop .before .before .before .before .before .before .before in
-    run-on _ _ _ _ _ _ _ _ _ (at-loop .loop .inv) _ _ _ (at-step .step-warp .ensures) (at-pre .pre) (at-if1 .if1 .taken) (at-if2 .if2 .left) (at-if3 .if3 .left) (omega (arith, c .if4 .left)) (at-step .step .kept .1 .1 .1 .0) (at-step .step .kept .1 .1 .1 .1 .0)
+    run-on _ _ _ _ _ _ _ _ _ (at-loop .loop .inv) _ _ _ (at-step .step-warp .ensures) (at-pre .pre) (at-if1 .if1 .taken) (at-if2 .if2 .left) (at-if3 .if3 .left) (omega (arith, c .if4 .left)) (at-step .step-warp .kept .1 .1 .1 .0) (at-step .step-warp .kept .1 .1 .1 .1 .0)
 
 returns-4 : tie.Need-returns-4 Inv-loop μ-loop
 returns-4 c = told-by (c .ended4 .ensures) (run-done _ _ _ _ _ _ _ _ _ (c .before .before .before .loop .inv) (c .before .if1 .left))

@@ -21,7 +21,7 @@ mul-needed c =
     let n = c .before .before in
     let k = n .before .refuse in
     let a = n .before .before .before .before .args in
-    let A = admitted (a .commands .now) (a .lengths .now) (a .relation-len) (a .generation-len) (said-zero (k .result) (n .told .ensures) (k .ensures) (c .if1 .left)) in
+    let A = admitted (a .commands .now) (a .lengths .now) (a .wide) (a .high) (said-zero (k .result) (n .told .ensures) (k .ensures) (c .if1 .left)) in
     omega (arith, A .keeps .few-rows)
 
 returns-2 : tie.Need-returns-2
