@@ -49,7 +49,7 @@ module _ {table lengths : List ℕ} (K : Keeps table lengths) where
     pub long : length g ≡ mostRows
     pub same : (c : ℕ) → c < rows table → getD g c 0 ≡ gens P H υ c
 
-  -- An entry t of σ, after the entries ρ, at which a replay that has come to υ standing: its state stands for the machine's there.
+  -- An entry t of σ, after the entries ρ, at which a replay that has come to υ ends: its state stands for the machine's there.
   pub record Entry (σ υ : List ℕ) (r : Replayed) (n : ℕ) : Type 0 where
     pub ρ : List ℕ
     pub t : ℕ
@@ -58,7 +58,7 @@ module _ {table lengths : List ℕ} (K : Keeps table lengths) where
     pub stands : Stands K (reverseAux ρ υ) (r .state)
     pub steps : r .steps ≡ n + length ρ
 
-  -- How a replay that has come to υ standing, with the entries σ left and n steps taken.
+  -- How a replay that has come to υ ends, with the entries σ left and n steps taken.
   pub data PlaysTo (σ υ : List ℕ) (r : Replayed) (n : ℕ) : Type 0 where
     through : Stands K (reverseAux σ υ) (r .state) → Gens (reverseAux σ υ) (r .generations) → r .verdict ≡ verdict.Clean → r .steps ≡ n + length σ → PlaysTo σ υ r n
     refused-at : (e : Entry σ υ r n) → ¬ Steps P H (reverseAux (e .ρ) υ) (e .t) → r .verdict ≡ verdict.NotAllowed (r .steps) → PlaysTo σ υ r n

@@ -27,7 +27,7 @@ loop-again c =
     let a = c .before .before .args in (
       search needs,
       search needs,
-      ap (λ (r : List ℕ). set r (l .c) (getD (a .t2) (l .c) 0)) (l .inv .2) ∙ put-more (a .t2) (a .generations .now) (l .c) (search needs) (search needs),
+      ap (λ (r : List ℕ). set r (l .c) (getD (a .t2) (l .c) 0)) (l .inv .2) ∙ put-more (a .t2) (a .room .now) (l .c) (search needs) (search needs),
     )
 
 returns : tie.Need-returns Inv-loop μ-loop
@@ -35,7 +35,7 @@ returns c =
     let l = c .before .loop in
     let a = c .before .before .args in
     let e : l .c ≡ a .m = omega arith in
-    l .inv .2 ∙ ap (λ (n : ℕ). put (a .t2) n (a .generations .now)) e
+    l .inv .2 ∙ ap (λ (n : ℕ). put (a .t2) n (a .room .now)) e
 
 pub put-generations-spec : {M : Type 1} → statement M
 unfolding mostRows
