@@ -14,25 +14,28 @@ use Rattle.desk.specs.Conclusion.{ofText}
 use Rattle.desk.specs.Promise.{leastRoom}
 use Rattle.desk.specs.Evidence.{leastEvidence, textExhibits}
 use Rattle.desk.proofs.Theorems.{no-zero-printed}
-use Rattle.cuckoomoss.specs.Printed.{printed, PrintsReport, PrintsEvidence}
+use Rattle.cuckoomoss.specs.Printed.{zeros, printed, PrintsReport, PrintsEvidence}
 
-zeros : (k i : ℕ) → getD (replicate k 0) i 0 ≡ 0
-zeros zero i = refl
-zeros (suc k) zero = refl
-zeros (suc k) (suc i) = zeros k i
+zero-at : (k i : ℕ) → getD (zeros k) i 0 ≡ 0
+zero-at zero i = refl
+zero-at (suc k) zero = refl
+zero-at (suc k) (suc i) = zero-at k i
+
+long-zeros : (k : ℕ) → length (zeros k) ≡ k
+long-zeros k = length-replicate k 0
 
 -- so much is printed of a room of zeros over which bytes without a zero were written
-written-printed : (w : List ℕ) (k : ℕ) → NoZero w → printed (over w (replicate k 0)) ≡ w
+written-printed : (w : List ℕ) (k : ℕ) → NoZero w → printed (over w (zeros k)) ≡ w
 written-printed w k f =
-    let rest = drop (length w) (replicate k 0) in
-    let z : beforeZero rest ≡ 0 = run-none-at nonzero rest (rw (getD-drop (length w) (replicate k 0) 0 0, zeros k (length w + 0))) in
+    let rest = drop (length w) (zeros k) in
+    let z : beforeZero rest ≡ 0 = run-none-at nonzero rest (rw (getD-drop (length w) (zeros k) 0 0, zero-at k (length w + 0))) in
     let e : beforeZero (w ++ rest) ≡ length w = omega (arith, run-past nonzero w rest f, z) in
     ap (λ (n : ℕ). take n (w ++ rest)) e ∙ take-append-seam w rest
 
 pub prints-report : PrintsReport
 prints-report text room′ n R =
-    ap printed (R .prints (omega (arith, length-replicate leastRoom 0))) ∙ written-printed (report (ofText text)) leastRoom (report-no-zero (ofText text))
+    ap printed (R .prints (omega (arith, long-zeros leastRoom))) ∙ written-printed (report (ofText text)) leastRoom (report-no-zero (ofText text))
 
 pub prints-evidence : PrintsEvidence
 prints-evidence text room′ n R =
-    ap printed (R .prints (omega (arith, length-replicate leastEvidence 0))) ∙ written-printed (report (ofText text) ++ textExhibits text) leastEvidence (no-zero-printed text)
+    ap printed (R .prints (omega (arith, long-zeros leastEvidence))) ∙ written-printed (report (ofText text) ++ textExhibits text) leastEvidence (no-zero-printed text)

@@ -14,14 +14,18 @@ use Rattle.desk.specs.Evidence.{leastEvidence, textExhibits, TextEvidenced}
 abbrev pub AnswersBeforeZero : (room : List ℕ) (r : ℕ) → Type 0
 AnswersBeforeZero room r = (r ≡ beforeZero room) × Counts r room
 
+-- a room of zeros
+abbrev pub zeros : ℕ → List ℕ
+zeros k = replicate k 0
+
 abbrev pub printed : List ℕ → List ℕ
 printed room = take (beforeZero room) room
 
 -- In a room of zeros, what is printed is the report, whole and alone.
 abbrev pub PrintsReport : Type 0
-PrintsReport = (text room′ : List ℕ) (n : ℕ) → TextReviewed text (replicate leastRoom 0) room′ n → printed room′ ≡ report (ofText text)
+PrintsReport = (text room′ : List ℕ) (n : ℕ) → TextReviewed text (zeros leastRoom) room′ n → printed room′ ≡ report (ofText text)
 
 -- And with evidence the report and the exhibits.
 abbrev pub PrintsEvidence : Type 0
 PrintsEvidence =
-    (text room′ : List ℕ) (n : ℕ) → TextEvidenced text (replicate leastEvidence 0) room′ n → printed room′ ≡ report (ofText text) ++ textExhibits text
+    (text room′ : List ℕ) (n : ℕ) → TextEvidenced text (zeros leastEvidence) room′ n → printed room′ ≡ report (ofText text) ++ textExhibits text
