@@ -1,6 +1,7 @@
 // A barrier: either unset, or expecting a count with what has registered so far.
 ghost use mathlib.Core.Path.{_≡_};
-ghost use Rattle.barriers.specs.Barrier.{isSet, oneMore, registration};
+ghost use Rattle.barriers.specs.Barrier.{oneMore};
+ghost use Rattle.barriers.specs.Promise.{AnswersRegister, AnswersIsSet};
 use crate::counting::more;
 
 pub enum Phase {
@@ -53,7 +54,7 @@ fn join(count: u32, got: u32, done: u32) -> Registration
 impl Barrier {
     // A command of this count registers.
     pub fn register(self, count: u32) -> Registration
-        ensures { λ r. ⌜ r ≡ registration self count ⌝ }
+        ensures { λ r. ⌜ AnswersRegister self count r ⌝ }
     {
         let phase = self.phase;
         let done = self.done;
@@ -72,7 +73,7 @@ impl Barrier {
     }
 
     pub fn is_set(self) -> bool
-        ensures { λ r. ⌜ r ≡ isSet (self .phase) ⌝ }
+        ensures { λ r. ⌜ AnswersIsSet self r ⌝ }
     {
         let phase = self.phase;
         match phase {

@@ -1,10 +1,9 @@
 // Counters.
-ghost use mathlib.Core.Path.{_≡_};
-ghost use Rattle.barriers.specs.Counting.{counted};
+ghost use Rattle.barriers.specs.Promise.{AnswersMore};
 
 // One more; a counter at the largest number stays there.
 pub fn more(n: u32) -> u32
-    ensures { λ r. ⌜ r ≡ counted n ⌝ }
+    ensures { λ r. ⌜ AnswersMore n r ⌝ }
 {
     if n < 4294967295 { n + 1 } else { n }
 }

@@ -1,2 +1,3 @@
--- What `close` promises is said in the crate `relation` (Chains, Table). Rows is by itself: how the rounds go; nothing public speaks of it.
+-- Chains and tables of bits stand in the crate `relation` (Chains, Table). Read here: Promise (what the public function promises). By itself: Rows (how the rounds go; nothing public speaks of it).
+pub mod Promise
 pub mod Rows

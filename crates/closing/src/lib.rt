@@ -1,6 +1,5 @@
 // The closing of a table under chains, by Warshall's rounds over the doors of `relation`. Nothing here knows of barriers.
-ghost use Rattle.relation.specs.Chains.{Chain};
-ghost use Rattle.relation.specs.Table.{Related, Writes};
+ghost use Rattle.closing.specs.Promise.{Closes};
 use crate::padding::trim;
 use crate::rounds::all_rounds;
 use relation::table_words;
@@ -10,7 +9,7 @@ mod rounds; // row k joined into every row that has bit k, for each k
 
 // The least relation that has the table's pairs and in which chains count. A room that is short is refused and left as it was.
 pub fn close(room: &mut [u32], m: u32) -> bool
-    ensures { λ r. ⌜ Writes (Chain (Related (now (room .entry)) m)) (now (room .entry)) (now (room .exit)) m r ⌝ }
+    ensures { λ r. ⌜ Closes (now (room .entry)) m (now (room .exit)) r ⌝ }
 {
     if room.len() < table_words(m) {
         return false;

@@ -6,12 +6,11 @@ use Prim.Native.Nat.{ℕ}
 use Rattle.sheet.specs.declared.Pair.{Pair}
 use Rattle.faults.specs.declared.faults.Fault.{Fault}
 use Rattle.faults.specs.declared.faults.Seen.{Seen}
-use Rattle.faults.specs.Faults.{pairOf}
-use Rattle.faults.specs.Tests.{isFault}
+use Rattle.faults.specs.Promise.{AnswersPairOf, AnswersIsFault}
 
-pub pair-of-one : (f : Fault) (i j : ℕ) {a b : Pair} → a ≡ pairOf f i j → b ≡ pairOf f i j → a ≡ b
+pub pair-of-one : (f : Fault) (i j : ℕ) {a b : Pair} → AnswersPairOf f i j a → AnswersPairOf f i j b → a ≡ b
 pair-of-one f i j A B = A ∙ sym B
 
-pub is-fault-one : (relation : List ℕ) (m : ℕ) (f : Fault) (outer inner : Seen) {a b : Bool} → a ≡ isFault relation m f outer inner
-    → b ≡ isFault relation m f outer inner → a ≡ b
-is-fault-one relation m f outer inner A B = A ∙ sym B
+pub is-fault-one : (f : Fault) (relation : List ℕ) (m : ℕ) (outer inner : Seen) {a b : Bool} → AnswersIsFault f relation m outer inner a
+    → AnswersIsFault f relation m outer inner b → a ≡ b
+is-fault-one f relation m outer inner A B = A ∙ sym B

@@ -1,7 +1,7 @@
 // The reuse test and the race test.
 ghost use mathlib.Core.Path.{_≡_};
-ghost use Rattle.faults.specs.Faults.{pairOf};
-ghost use Rattle.faults.specs.Tests.{succeedsBy, reuseBy, conflictBy, unordered, raceBy, isFault};
+ghost use Rattle.faults.specs.Tests.{succeedsBy, reuseBy, conflictBy, unordered, raceBy};
+ghost use Rattle.faults.specs.Promise.{AnswersPairOf, AnswersIsFault};
 use relation::related;
 use sheet::Pair;
 use tables::Table;
@@ -85,7 +85,7 @@ fn is_race(relation: &[u32], m: u32, x: Seen, y: Seen) -> bool
 
 // The search goes by an outer number i and an inner number j. For reuse i is c2 and j is c1; for races i is x and j is y.
 pub fn pair_of(fault: Fault, i: usize, j: usize) -> Pair
-    ensures { λ r. ⌜ r ≡ pairOf fault i j ⌝ }
+    ensures { λ r. ⌜ AnswersPairOf fault i j r ⌝ }
 {
     match fault {
         Fault::Reuse => Pair {
@@ -101,7 +101,7 @@ pub fn pair_of(fault: Fault, i: usize, j: usize) -> Pair
 
 // Are the outer and the inner command such a fault, by the table of what reaches what among m commands?
 pub fn is_fault(fault: Fault, relation: &[u32], m: u32, outer: Seen, inner: Seen) -> bool
-    ensures { λ r. ⌜ r ≡ isFault (now (relation .entry)) m fault outer inner ⌝ }
+    ensures { λ r. ⌜ AnswersIsFault fault (now (relation .entry)) m outer inner r ⌝ }
 {
     match fault {
         Fault::Reuse => is_reuse(relation, m, inner, outer),

@@ -1,15 +1,15 @@
 -- Any two outcomes that meet the contract of a door are equal. Assumes nothing.
 use mathlib.Core.Path.{_≡_, sym, ap₂, _∙_}
-use mathlib.Core.List.{List, []}
+use mathlib.Core.List.{List}
 use Prim.Native.Nat.{ℕ}
 use Rattle.verdicts.specs.declared.Verdict.{Verdict}
 use Rattle.verdicts.proofs.Verdicts.{numbered-one}
 use Rattle.sheet.specs.declared.Sheet.{Sheet}
-use Rattle.sheet.specs.Sheet.{sheetOf}
 use Rattle.findings.specs.declared.finding.Finding.{Finding}
 use Rattle.findings.specs.Findings.{Finds}
+use Rattle.findings.specs.Promise.{AnswersBare}
 
-pub bare-one : (v : Verdict) {a b : Finding} → a ≡ record { verdict = v; sheet = sheetOf [] } → b ≡ record { verdict = v; sheet = sheetOf [] } → a ≡ b
+pub bare-one : (v : Verdict) {a b : Finding} → AnswersBare v a → AnswersBare v b → a ≡ b
 bare-one v A B = A ∙ sym B
 
 pub find-faults-one : (commands lengths generations relation : List ℕ) (a b : Finding) → Finds commands lengths generations relation a

@@ -1,6 +1,6 @@
 // What is found: refusals 1 and 4, or the verdict of the search, with the sheet.
 ghost use mathlib.Core.Path.{_≡_};
-ghost use mathlib.Core.List.{List, []};
+ghost use mathlib.Core.List.{List};
 ghost use Prim.Native.Nat.{_≤_};
 ghost use lib.ListN.{length};
 ghost use Rattle.tables.specs.Limits.{mostRows};
@@ -8,6 +8,7 @@ ghost use Rattle.tables.specs.Rows.{rows};
 ghost use Rattle.sheet.specs.declared.Pair.{Pair};
 ghost use Rattle.sheet.specs.Sheet.{sheetOf};
 ghost use Rattle.findings.specs.Findings.{Finds};
+ghost use Rattle.findings.specs.Promise.{AnswersBare};
 ghost use Rattle.findings.specs.Searches.{allFound, kindTold, Found, LookedBy, LookedOver};
 use crate::search::search;
 use faults::Fault;
@@ -24,7 +25,7 @@ pub struct Finding {
 
 // A verdict without a fault's pairs.
 pub fn bare(verdict: Verdict) -> Finding
-    ensures { λ r. ⌜ r ≡ record { verdict = verdict; sheet = sheetOf [] } ⌝ }
+    ensures { λ r. ⌜ AnswersBare verdict r ⌝ }
 {
     Finding {
         verdict,

@@ -7,14 +7,13 @@ use Rattle.grammar.specs.declared.tokens.Token.{Token}
 use Rattle.grammar.specs.declared.tokens.Met.{Met}
 use Rattle.grammar.specs.declared.automaton.State.{State}
 use Rattle.grammar.specs.declared.automaton.TokenMove.{TokenMove}
-use Rattle.grammar.specs.Tokens.{tokenAt}
-use Rattle.grammar.specs.Automaton.{tokenMoves, mayEnd}
+use Rattle.grammar.specs.Promise.{AnswersTokenAt, AnswersTakeToken, AnswersMayEnd}
 
-pub token-at-one : (text : List ℕ) (at : ℕ) {r s : Met} → r ≡ tokenAt text at → s ≡ tokenAt text at → r ≡ s
+pub token-at-one : (text : List ℕ) (at : ℕ) {r s : Met} → AnswersTokenAt text at r → AnswersTokenAt text at s → r ≡ s
 token-at-one text at e f = e ∙ sym f
 
-pub step-one : (state : State) (token : Token) {r s : TokenMove} → r ≡ tokenMoves state token → s ≡ tokenMoves state token → r ≡ s
-step-one state token e f = e ∙ sym f
+pub take-token-one : (state : State) (token : Token) {r s : TokenMove} → AnswersTakeToken state token r → AnswersTakeToken state token s → r ≡ s
+take-token-one state token e f = e ∙ sym f
 
-pub ends-one : (state : State) {r s : Bool} → r ≡ mayEnd state → s ≡ mayEnd state → r ≡ s
-ends-one state e f = e ∙ sym f
+pub may-end-one : (state : State) {r s : Bool} → AnswersMayEnd state r → AnswersMayEnd state s → r ≡ s
+may-end-one state e f = e ∙ sym f

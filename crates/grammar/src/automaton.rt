@@ -1,6 +1,5 @@
 // What the reader expects next, and what a token does.
-ghost use mathlib.Core.Path.{_≡_};
-ghost use Rattle.grammar.specs.Automaton.{tokenMoves, mayEnd};
+ghost use Rattle.grammar.specs.Promise.{AnswersTakeToken, AnswersMayEnd};
 use crate::tokens::Token;
 
 pub enum State {
@@ -27,7 +26,7 @@ pub enum TokenMove {
 }
 
 pub fn take_token(state: State, token: Token) -> TokenMove
-    ensures { λ r. ⌜ r ≡ tokenMoves state token ⌝ }
+    ensures { λ r. ⌜ AnswersTakeToken state token r ⌝ }
 {
     match state {
         State::Word => match token {
@@ -61,7 +60,7 @@ pub fn take_token(state: State, token: Token) -> TokenMove
 
 // May the text end here?
 pub fn may_end(state: State) -> bool
-    ensures { λ r. ⌜ r ≡ mayEnd state ⌝ }
+    ensures { λ r. ⌜ AnswersMayEnd state r ⌝ }
 {
     match state {
         State::Parting => true,

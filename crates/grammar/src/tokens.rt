@@ -2,7 +2,8 @@
 ghost use mathlib.Core.Path.{_≡_};
 ghost use Prim.Native.Nat.{_<_};
 ghost use lib.ListN.{length};
-ghost use Rattle.grammar.specs.Tokens.{wordOf, numberOf, markOf, pieceOf, tokenAt};
+ghost use Rattle.grammar.specs.Tokens.{wordOf, numberOf, markOf, pieceOf};
+ghost use Rattle.grammar.specs.Promise.{AnswersTokenAt};
 use spelling::Byte;
 use spelling::Numeral;
 use spelling::class_of;
@@ -110,7 +111,7 @@ fn first_token(bytes: &[u8]) -> Piece
 
 // The token at a place; past the text it is the end there.
 pub fn token_at(text: &[u8], at: usize) -> Met
-    ensures { λ r. ⌜ r ≡ tokenAt (now (text .entry)) at ⌝ }
+    ensures { λ r. ⌜ AnswersTokenAt (now (text .entry)) at r ⌝ }
 {
     if text.len() < at {
         return Met::End(at);

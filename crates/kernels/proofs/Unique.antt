@@ -3,7 +3,7 @@ use mathlib.Core.Path.{_≡_, sym, _∙_}
 use mathlib.Core.List.{List}
 use Prim.Native.Nat.{ℕ}
 use Rattle.kernels.specs.declared.kernel.Ruling.{Ruling}
-use Rattle.kernels.specs.Refusals.{rulingOf}
+use Rattle.kernels.specs.Promise.{AnswersRuling}
 
-pub ruling-one : (s e : List ℕ) (lanes : ℕ) {r q : Ruling} → r ≡ rulingOf s e lanes → q ≡ rulingOf s e lanes → r ≡ q
+pub ruling-one : (s e : List ℕ) (lanes : ℕ) {r q : Ruling} → AnswersRuling s e lanes r → AnswersRuling s e lanes q → r ≡ q
 ruling-one s e lanes f g = f ∙ sym g

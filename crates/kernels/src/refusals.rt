@@ -1,7 +1,8 @@
 // Both refusals, in the order tested.
 ghost use mathlib.Core.Path.{_≡_};
 ghost use Prim.Native.Nat.{_<_};
-ghost use Rattle.kernels.specs.Refusals.{badLength, badTables, rulingOf};
+ghost use Rattle.kernels.specs.Refusals.{badLength, badTables};
+ghost use Rattle.kernels.specs.Promise.{AnswersRuling};
 use crate::expressions::some_bad_expression;
 use crate::kernel::Kernel;
 use crate::kernel::Ruling;
@@ -32,7 +33,7 @@ fn bad_tables(s: &[u32], e: &[u32], lanes: u32) -> bool
 
 // Refusal 17 or 18 of a kernel's tables, with its place, or 0 where they pass.
 pub fn ruling(statements: &[u32], expressions: &[u32], lanes: u32) -> Ruling
-    ensures { λ r. ⌜ r ≡ rulingOf (now (statements .entry)) (now (expressions .entry)) lanes ⌝ }
+    ensures { λ r. ⌜ AnswersRuling (now (statements .entry)) (now (expressions .entry)) lanes r ⌝ }
 {
     if bad_tables(statements, expressions, lanes) {
         return Ruling {

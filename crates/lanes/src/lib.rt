@@ -1,6 +1,5 @@
 // The lanes of a warp as words of 32 bits: bit t of each belongs to lane t.
-ghost use mathlib.Core.Path.{_≡_};
-ghost use Rattle.lanes.specs.Words.{wokenBy, brokenBy, returnedBy, leaving, onlyActive, highestOf, allOf};
+ghost use Rattle.lanes.specs.Promise.{AnswersWake, AnswersBreakOff, AnswersGiveUp, AnswersLeaveOut, AnswersOnly, AnswersHighest, AnswersAllOf};
 
 // The types of tokens, by number.
 pub struct TokenKind;
@@ -25,7 +24,7 @@ pub struct Lanes {
 impl Lanes {
     // A token comes off the stack. A number past the types is a call.
     pub fn wake(self, kind: u32, mask: u32) -> Self
-        ensures { λ r. ⌜ r ≡ wokenBy self kind mask ⌝ }
+        ensures { λ r. ⌜ AnswersWake self kind mask r ⌝ }
     {
         if kind < TokenKind::BRK {
             let some = mask ^ (mask & self.broke);
@@ -55,7 +54,7 @@ impl Lanes {
 
     // The active lanes break off.
     pub fn break_off(self) -> Self
-        ensures { λ r. ⌜ r ≡ brokenBy self ⌝ }
+        ensures { λ r. ⌜ AnswersBreakOff self r ⌝ }
     {
         Lanes {
             active: 0,
@@ -66,7 +65,7 @@ impl Lanes {
 
     // The active lanes return.
     pub fn give_up(self) -> Self
-        ensures { λ r. ⌜ r ≡ returnedBy self ⌝ }
+        ensures { λ r. ⌜ AnswersGiveUp self r ⌝ }
     {
         Lanes {
             active: 0,
@@ -77,7 +76,7 @@ impl Lanes {
 
     // The active lanes but those in a mask.
     pub fn leave_out(self, mask: u32) -> Self
-        ensures { λ r. ⌜ r ≡ leaving self mask ⌝ }
+        ensures { λ r. ⌜ AnswersLeaveOut self mask r ⌝ }
     {
         Lanes {
             active: self.active ^ (self.active & mask),
@@ -88,7 +87,7 @@ impl Lanes {
 
     // These lanes are active.
     pub fn only(self, mask: u32) -> Self
-        ensures { λ r. ⌜ r ≡ onlyActive self mask ⌝ }
+        ensures { λ r. ⌜ AnswersOnly self mask r ⌝ }
     {
         Lanes {
             active: mask,
@@ -100,7 +99,7 @@ impl Lanes {
 
 // The highest lane of a mask, or 0.
 pub fn highest(mask: u32) -> u32
-    ensures { λ r. ⌜ r ≡ highestOf 32 mask ⌝ }
+    ensures { λ r. ⌜ AnswersHighest mask r ⌝ }
 {
     if mask == 0 {
         return 0;
@@ -110,7 +109,7 @@ pub fn highest(mask: u32) -> u32
 
 // The mask of the first n lanes; there are 32.
 pub fn all_of(n: u32) -> u32
-    ensures { λ r. ⌜ r ≡ allOf n ⌝ }
+    ensures { λ r. ⌜ AnswersAllOf n r ⌝ }
 {
     if n < 32 {
         return (1u32 << n) - 1;

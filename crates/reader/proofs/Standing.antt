@@ -19,7 +19,7 @@ use denote.RattleType.{RattleType, owns}
 use denote.Laws.{Is}
 use denote.Plain.{uint-makes}
 use denote.Builtin.{u8, usize}
-use denote.Ref.{RefT, now}
+use denote.Ref.{RefT}
 use denote.Signature.{namedLft}
 use denote.Slice.{sliceVal, ShrSlice, shr-slice-copy}
 use denote.Steps.{owned, nothing}
@@ -31,7 +31,7 @@ use denote.Triple.Statement.{Contract}
 use denote.Triple.Spec.{tripleOf}
 use denote.Triple.Clauses.{ensured, lasts}
 use Rattle.reader.specs.declared.Reader.{Reader}
-use Rattle.reader.specs.Places.{placeIn, restIn, ahead}
+use Rattle.reader.specs.Promise.{StandsAt}
 use Rattle.reader.proofs.Reader as T
 use Rattle.reader.proofs.Reader.Laws as T′
 use Rattle.reader.proofs.Reader.new as new
@@ -47,10 +47,6 @@ Lent κ = ShrSlice (named 0) κ u8
 
 abbrev pub val : RefT (List ℕ) → Val
 val s = sliceVal (s .ptr) (length (s .now))
-
--- a slice is the rest of a text at a place: its bytes, and where it points
-abbrev pub IsRest : RefT (List ℕ) → ℕ → RefT (List ℕ) → Type 0
-IsRest s n t = (now t ≡ restIn (now s) n) × (t .ptr ≡ ahead (s .ptr) (placeIn (now s) n))
 
 module _ {M : Type 1} (𝓤 : URA M) (H : Heap 𝓤) (A : Atoms 𝓤) (mem : Memory → SProp 𝓤) (run : Routine → Fun 𝓤) where
   abbrev pub New : Contract 𝓤
@@ -100,8 +96,8 @@ module _ {M : Type 1} (𝓤 : URA M) (H : Heap 𝓤) (A : Atoms 𝓤) (W : Given
         move ! (1 ∷ []) $ fsplit ! $ move ! (1 ∷ []) $ drop ! $ use1 W (‵ (Lent κ .own s (val s ∷ [])) ⊛ ‵ (Lent κ .own s (val s ∷ []))) (shr-slice-copy 𝓤 H A W (named 0) κ u8 .twice s (val s ∷ [])) $ split ! $
         nothing ! $ move ! (1 ∷ 0 ∷ []) $ fjoin ! $ move ! (2 ∷ 0 ∷ []) $ use2 W (raw (New 𝓤 H A mem run .pre to-new)) (qed W ((‵ (flft κ q) ⊛ ‵ ftrue) ∷ ‵ (owns (Lent κ ∷ []) (s, tt) (val s ∷ [], tt)) ∷ []) ∵ join ! $ frame ! $ done !) $ frame ! $ done !
 
-    pub new-said : (r : Reader) → ent 𝓤 (ensured 𝓤 H A new.ended (new.clauses 𝓤 H A mem run) (κ, tt) (s, tt) tt r) (fact 𝓤 ((r .text ≡ s) × (r .at ≡ 0)))
-    new-said r = exE 𝓤 _ (λ ws. snd∗ 𝓤 (sem 𝓤 H A (lasts new.ended (κ, tt) (s, tt) ws)) (fact 𝓤 ((r .text ≡ s) × (r .at ≡ 0))))
+    pub new-said : (r : Reader) → ent 𝓤 (ensured 𝓤 H A new.ended (new.clauses 𝓤 H A mem run) (κ, tt) (s, tt) tt r) (fact 𝓤 (StandsAt s 0 r))
+    new-said r = exE 𝓤 _ (λ ws. snd∗ 𝓤 (sem 𝓤 H A (lasts new.ended (κ, tt) (s, tt) ws)) (fact 𝓤 (StandsAt s 0 r)))
 
     abbrev pub to-moved : Reader → Val → TokenMove 𝓤 H A mem run .Ghost
     to-moved r u = (((κ, tt), (q, tt), tt, (r, (n, tt)), (u ∷ [], (vint w64 n ∷ [], tt))), tt)
@@ -111,5 +107,5 @@ module _ {M : Type 1} (𝓤 : URA M) (H : Heap 𝓤) (A : Atoms 𝓤) (W : Given
         qed W (‵ (B (κ, tt) .own r (u ∷ [])) ∷ (‵ (flft κ q) ⊛ ‵ ftrue) ∷ []) ∵ nothing ! $ owned ! usize (Is usize) (uint-makes 𝓤 H A W w64) n _ (refl, ok) $ fjoin ! $
         move ! (1 ∷ 0 ∷ []) $ fjoin ! $ move ! (1 ∷ 0 ∷ []) $ join ! $ frame ! $ done !
 
-    pub moved-said : (r r′ : Reader) → ent 𝓤 (ensured 𝓤 H A moved.ended (moved.clauses 𝓤 H A mem run) (κ, tt) (r, (n, tt)) tt r′) (fact 𝓤 ((r′ .text ≡ r .text) × (r′ .at ≡ n)))
-    moved-said r r′ = exE 𝓤 _ (λ ws. snd∗ 𝓤 (sem 𝓤 H A (lasts moved.ended (κ, tt) (r, (n, tt)) ws)) (fact 𝓤 ((r′ .text ≡ r .text) × (r′ .at ≡ n))))
+    pub moved-said : (r r′ : Reader) → ent 𝓤 (ensured 𝓤 H A moved.ended (moved.clauses 𝓤 H A mem run) (κ, tt) (r, (n, tt)) tt r′) (fact 𝓤 (StandsAt (r .text) n r′))
+    moved-said r r′ = exE 𝓤 _ (λ ws. snd∗ 𝓤 (sem 𝓤 H A (lasts moved.ended (κ, tt) (r, (n, tt)) ws)) (fact 𝓤 (StandsAt (r .text) n r′)))

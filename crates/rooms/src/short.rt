@@ -1,12 +1,10 @@
 // Rooms that are short.
-ghost use mathlib.Core.Path.{_≡_};
-ghost use Rattle.verdicts.specs.Verdicts.{numbered};
-ghost use Rattle.rooms.specs.Short.{firstShort};
+ghost use Rattle.rooms.specs.Promise.{AnswersShortRoom};
 use verdicts::Verdict;
 
 // The first of the rooms that is short, or 0. A room is three numbers: its digit, the length that is needed, and the length that was given.
 pub fn short_room(rooms: &[[usize; 3]]) -> Verdict
-    ensures { λ r. ⌜ numbered r ≡ firstShort (now (rooms .entry)) ⌝ }
+    ensures { λ r. ⌜ AnswersShortRoom (now (rooms .entry)) r ⌝ }
 {
     let mut i = 0;
     while i < rooms.len() {

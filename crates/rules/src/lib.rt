@@ -1,7 +1,7 @@
 // The check of the tables: refusals 1 to 3.
 ghost use mathlib.Core.Path.{_≡_};
-ghost use Rattle.rules.specs.Rules.{rowKeeps, firstBad, badCommands, checked};
-ghost use Rattle.verdicts.specs.Verdicts.{numbered};
+ghost use Rattle.rules.specs.Rules.{rowKeeps, firstBad};
+ghost use Rattle.rules.specs.Promise.{AnswersBadCommands, AnswersCheckTables};
 use tables::Table;
 use tables::first_row;
 use verdicts::Verdict;
@@ -40,7 +40,7 @@ fn first_bad(commands: &[u32], threads: usize) -> usize
 
 // Are the command numbers no multiple of 3, or the rows too many? No row is looked at.
 pub fn bad_commands(commands: &[u32]) -> bool
-    ensures { λ r. ⌜ r ≡ badCommands (now (commands .entry)) ⌝ }
+    ensures { λ r. ⌜ AnswersBadCommands (now (commands .entry)) r ⌝ }
 {
     let numbers = commands.len();
     if numbers % 3 != 0 {
@@ -51,7 +51,7 @@ pub fn bad_commands(commands: &[u32]) -> bool
 
 // The number of refusal 1, 2 or 3 with its place, in the order tested, or 0 where the tables pass.
 pub fn check_tables(commands: &[u32], lengths: &[u32]) -> Verdict
-    ensures { λ r. ⌜ numbered r ≡ checked (now (commands .entry)) (now (lengths .entry)) ⌝ }
+    ensures { λ r. ⌜ AnswersCheckTables (now (commands .entry)) (now (lengths .entry)) r ⌝ }
 {
     if bad_commands(commands) {
         return Verdict::BadCommands;

@@ -3,7 +3,7 @@ ghost use mathlib.Core.Path.{_≡_};
 ghost use Prim.Native.Nat.{_^_, _<_};
 ghost use lib.Bits.{bitAnd, bitXor};
 ghost use Rattle.sets.specs.Words.{putBit};
-ghost use Rattle.sets.specs.Set.{has, none, put, lowestBut};
+ghost use Rattle.sets.specs.Promise.{AnswersSetNone, AnswersHas, AnswersPut, AnswersLowestBut};
 use tables::Table;
 
 pub struct Set {
@@ -31,7 +31,7 @@ impl Set {
     pub const WORDS: usize = Table::THREADS / 64;
 
     pub fn none() -> Self
-        ensures { λ r. ⌜ r ≡ none ⌝ }
+        ensures { λ r. ⌜ AnswersSetNone r ⌝ }
     {
         Set {
             words: [0u64; Set::WORDS],
@@ -40,7 +40,7 @@ impl Set {
 
     // Is thread t in it?
     pub fn has(self, t: usize) -> bool
-        ensures { λ r. ⌜ r ≡ has self t ⌝ }
+        ensures { λ r. ⌜ AnswersHas self t r ⌝ }
     {
         if Table::THREADS <= t {
             return false;
@@ -51,7 +51,7 @@ impl Set {
 
     // Thread t is in it, or not.
     pub fn put(mut self, t: usize, on: bool) -> Self
-        ensures { λ r. ⌜ r ≡ put self t on ⌝ }
+        ensures { λ r. ⌜ AnswersPut self t on r ⌝ }
     {
         if Table::THREADS <= t {
             return self;
@@ -63,7 +63,7 @@ impl Set {
 
     // The lowest thread that is in it and not in another, or the limit.
     pub fn lowest_but(self, other: Set) -> usize
-        ensures { λ r. ⌜ r ≡ lowestBut self other ⌝ }
+        ensures { λ r. ⌜ AnswersLowestBut self other r ⌝ }
     {
         let mut i = 0;
         while i < Set::WORDS {

@@ -1,8 +1,7 @@
 // The fault sheet: the first pairs that are found are kept, and later ones only raise the total.
 ghost use mathlib.Core.Path.{_≡_};
-ghost use mathlib.Core.List.{[]};
-ghost use Prim.Native.Nat.{min};
-ghost use Rattle.sheet.specs.Sheet.{mostKept, sheetOf, counted, added};
+ghost use Rattle.sheet.specs.Sheet.{counted};
+ghost use Rattle.sheet.specs.Promise.{AnswersKept, AnswersEmpty, AddsPair};
 
 pub struct Pair {
     pub first: usize,
@@ -26,7 +25,7 @@ fn one_more(total: usize) -> usize
 
 // So many pairs of a total are kept.
 pub fn kept(total: usize) -> usize
-    ensures { λ r. ⌜ r ≡ min total mostKept ⌝ }
+    ensures { λ r. ⌜ AnswersKept total r ⌝ }
 {
     if total < Sheet::KEPT {
         return total;
@@ -39,7 +38,7 @@ impl Sheet {
     pub const KEPT: usize = 16;
 
     pub fn empty() -> Self
-        ensures { λ r. ⌜ r ≡ sheetOf [] ⌝ }
+        ensures { λ r. ⌜ AnswersEmpty r ⌝ }
     {
         let none = Pair {
             first: 0,
@@ -53,7 +52,7 @@ impl Sheet {
 
     // One pair more, by value.
     pub fn add(mut self, pair: Pair) -> Self
-        ensures { λ r. ⌜ r ≡ added self pair ⌝ }
+        ensures { λ r. ⌜ AddsPair self pair r ⌝ }
     {
         let n = self.total;
         self.total = one_more(n);
@@ -66,7 +65,7 @@ impl Sheet {
 
 // One pair more, in place.
 pub fn add_to(sheet: &mut Sheet, pair: Pair)
-    ensures { λ _. ⌜ now (sheet .exit) ≡ added (now (sheet .entry)) pair ⌝ }
+    ensures { λ _. ⌜ AddsPair (now (sheet .entry)) pair (now (sheet .exit)) ⌝ }
 {
     let s = *sheet;
     *sheet = s.add(pair);
@@ -74,7 +73,7 @@ pub fn add_to(sheet: &mut Sheet, pair: Pair)
 
 // One pair more for a caller that has the sheet by value: it is lent to `add_to` and comes back.
 pub fn with_pair(sheet: Sheet, pair: Pair) -> Sheet
-    ensures { λ r. ⌜ r ≡ added sheet pair ⌝ }
+    ensures { λ r. ⌜ AddsPair sheet pair r ⌝ }
 {
     let mut lent = sheet;
     add_to(&mut lent, pair);

@@ -1,6 +1,5 @@
 // Classes of bytes, and runs of bytes of one class.
-ghost use mathlib.Core.Path.{_≡_};
-ghost use Rattle.spelling.specs.Bytes.{classOf, is, run};
+ghost use Rattle.spelling.specs.Promise.{AnswersClassOf, AnswersRunOf};
 
 pub struct Byte;
 
@@ -16,7 +15,7 @@ impl Byte {
 }
 
 pub fn class_of(byte: u8) -> u32
-    ensures { λ r. ⌜ r ≡ classOf byte ⌝ }
+    ensures { λ r. ⌜ AnswersClassOf byte r ⌝ }
 {
     if (byte == 32) | (byte == 10) {
         return Byte::BLANK;
@@ -32,7 +31,7 @@ pub fn class_of(byte: u8) -> u32
 
 // How many bytes of a class the bytes begin with.
 pub fn run_of(bytes: &[u8], class: u32) -> usize
-    ensures { λ r. ⌜ r ≡ run (is class) (now (bytes .entry)) ⌝ }
+    ensures { λ r. ⌜ AnswersRunOf (now (bytes .entry)) class r ⌝ }
 {
     let mut i = 0;
     while i < bytes.len() {

@@ -1,6 +1,5 @@
 // Numbers in digits.
-ghost use mathlib.Core.Path.{_≡_};
-ghost use Rattle.spelling.specs.Numbers.{numeralOf};
+ghost use Rattle.spelling.specs.Promise.{AnswersReadNumber};
 use crate::bytes::Byte;
 use crate::bytes::class_of;
 
@@ -16,7 +15,7 @@ impl Numeral {
 
 // The number that the bytes are. It stops at the digit that passes the limit, so that a run of any length overflows nothing.
 pub fn read_number(bytes: &[u8]) -> Numeral
-    ensures { λ r. ⌜ r ≡ numeralOf (now (bytes .entry)) ⌝ }
+    ensures { λ r. ⌜ AnswersReadNumber (now (bytes .entry)) r ⌝ }
 {
     if bytes.len() == 0 {
         return Numeral::NotNumber;

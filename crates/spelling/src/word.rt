@@ -1,10 +1,9 @@
 // Words.
-ghost use mathlib.Core.Path.{_≡_};
-ghost use Rattle.spelling.specs.Words.{sameBytes};
+ghost use Rattle.spelling.specs.Promise.{AnswersSame};
 
 // Are the bytes those of the word?
 pub fn same(bytes: &[u8], word: &[u8]) -> bool
-    ensures { λ r. ⌜ r ≡ sameBytes (now (bytes .entry)) (now (word .entry)) ⌝ }
+    ensures { λ r. ⌜ AnswersSame (now (bytes .entry)) (now (word .entry)) r ⌝ }
 {
     if bytes.len() != word.len() {
         return false;

@@ -3,8 +3,8 @@ ghost use mathlib.Core.Path.{_≡_};
 ghost use Prim.Native.Nat.{_+_, _-_, _<_};
 ghost use Rattle.tables.specs.Limits.{barriers};
 ghost use Rattle.tables.specs.Lowest.{lowest};
-ghost use Rattle.verdicts.specs.Verdicts.{numbered};
-ghost use Rattle.steps.specs.Ending.{barrierSet, ended};
+ghost use Rattle.steps.specs.Ending.{barrierSet};
+ghost use Rattle.steps.specs.Promise.{AnswersEnding};
 ghost use Rattle.steps.specs.Change.{far};
 use crate::state::Replay;
 use tables::Table;
@@ -44,7 +44,7 @@ impl Replay {
 
     // Of a state after some steps, all allowed: 6, 8, 9, or 0.
     pub fn ending(self, lengths: &[u32], steps: u32) -> Verdict
-        ensures { λ r. ⌜ numbered r ≡ ended (now (lengths .entry)) self steps ⌝ }
+        ensures { λ r. ⌜ AnswersEnding self (now (lengths .entry)) steps r ⌝ }
     {
         let threads = lengths.len();
         if lowest_allowed(lengths, &self.next, &self.waits) < threads {

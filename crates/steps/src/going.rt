@@ -1,7 +1,8 @@
 // Any entries of a schedule, from any point, step by step. The state is taken and returned by value once; each step stores only what it changes.
 ghost use mathlib.Core.Path.{_≡_};
 ghost use Rattle.verdicts.specs.declared.Verdict.the-variants as verdict;
-ghost use Rattle.steps.specs.Going.{standing, begun, goOn};
+ghost use Rattle.steps.specs.Going.{standing};
+ghost use Rattle.steps.specs.Promise.{AnswersReplayedStart, AnswersGoOn};
 use crate::change::run_row;
 use crate::firsts::first_at;
 use crate::firsts::first_rows;
@@ -27,7 +28,7 @@ pub struct Replayed {
 impl Replayed {
     // Nothing has run.
     pub fn start() -> Self
-        ensures { λ r. ⌜ r ≡ begun ⌝ }
+        ensures { λ r. ⌜ AnswersReplayedStart r ⌝ }
     {
         Replayed {
             state: Replay::start(),
@@ -51,7 +52,7 @@ fn stop(state: Replay, generations: [u32; Table::ROWS], steps: u32, verdict: Ver
 
 // Where the replay has ended, nothing changes.
 pub fn go_on(from: Replayed, commands: &[u32], lengths: &[u32], entries: &[u32]) -> Replayed
-    ensures { λ r. ⌜ r ≡ goOn (now (commands .entry)) (now (lengths .entry)) (now (entries .entry)) from ⌝ }
+    ensures { λ r. ⌜ AnswersGoOn from (now (commands .entry)) (now (lengths .entry)) (now (entries .entry)) r ⌝ }
 {
     let verdict = from.verdict;
     if verdict.told().number != 0 {
@@ -71,7 +72,7 @@ fn play(
     lengths: &[u32],
     entries: &[u32],
 ) -> Replayed
-    ensures { λ r. ⌜ r ≡ goOn (now (commands .entry)) (now (lengths .entry)) (now (entries .entry)) (standing from before ran verdict.Clean) ⌝ }
+    ensures { λ r. ⌜ AnswersGoOn (standing from before ran verdict.Clean) (now (commands .entry)) (now (lengths .entry)) (now (entries .entry)) r ⌝ }
 {
     let firsts = first_rows(lengths);
     let mut state = from;

@@ -1,6 +1,5 @@
 // The replay state: one value, which each step takes and returns.
-ghost use mathlib.Core.Path.{_≡_};
-ghost use Rattle.steps.specs.State.{start};
+ghost use Rattle.steps.specs.Promise.{AnswersReplayStart};
 use barriers::Barrier;
 use barriers::Phase;
 use tables::Table;
@@ -15,7 +14,7 @@ pub struct Replay {
 impl Replay {
     // All barriers unset, all threads unblocked, nothing run.
     pub fn start() -> Self
-        ensures { λ r. ⌜ r ≡ start ⌝ }
+        ensures { λ r. ⌜ AnswersReplayStart r ⌝ }
     {
         let unset = Barrier {
             phase: Phase::Unset,

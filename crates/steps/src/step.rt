@@ -1,7 +1,7 @@
 // One step: it runs the next command of one thread.
 ghost use mathlib.Core.Path.{_≡_};
-ghost use Rattle.steps.specs.Step.{stepped};
 ghost use Rattle.steps.specs.Writing.{goesOn};
+ghost use Rattle.steps.specs.Promise.{AnswersStep};
 use crate::change::run_row;
 use crate::row::thread_row;
 use crate::state::Replay;
@@ -42,7 +42,7 @@ pub(crate) fn goes_on(did: Did) -> bool
 impl Replay {
     // Thread t steps. A step that is not allowed, or that mismatches, keeps the state it met.
     pub fn step(mut self, commands: &[u32], lengths: &[u32], t: usize) -> Stepped
-        ensures { λ r. ⌜ r ≡ stepped (now (commands .entry)) (now (lengths .entry)) self t ⌝ }
+        ensures { λ r. ⌜ AnswersStep self (now (commands .entry)) (now (lengths .entry)) t r ⌝ }
     {
         let n = at(&self.next, t);
         let wait = at(&self.waits, t);

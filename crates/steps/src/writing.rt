@@ -1,9 +1,8 @@
 // The schedule that a choice writes, from any state.
-ghost use lib.ListN.{length};
 ghost use Rattle.tables.specs.Limits.{mostThreads};
 ghost use Rattle.turns.proofs.Kept.{LookedBelow};
 ghost use Rattle.steps.specs.Change.{FirstRows};
-ghost use Rattle.steps.specs.Writing.{writes, FilledBy};
+ghost use Rattle.steps.specs.Promise.{WritesOn};
 use crate::change::run_row;
 use crate::firsts::first_rows;
 use crate::row::thread_row;
@@ -44,8 +43,7 @@ pub fn write_on(
     early: &[bool],
     room: &mut [u32],
 ) -> usize
-    ensures { λ r. ⌜ FilledBy
-        (writes (now (early .entry)) (now (commands .entry)) (now (lengths .entry)) (length (now (room .entry))) from)
+    ensures { λ r. ⌜ WritesOn from (now (commands .entry)) (now (lengths .entry)) (now (early .entry))
         (now (room .entry)) (now (room .exit)) r ⌝ }
 {
     let firsts = first_rows(lengths);

@@ -1,9 +1,9 @@
 // Rows joined along listed pairs, sweep after sweep, until nothing changes. In which order can only cost time, so no promise speaks of it.
 ghost use Prim.Native.Nat.{_≤_};
 ghost use lib.ListN.{length};
-ghost use Rattle.relation.specs.Chains.{Reach};
-ghost use Rattle.relation.specs.Table.{words, Writes};
+ghost use Rattle.relation.specs.Table.{words};
 ghost use Rattle.sweeps.specs.Pairs.{pairCount, PairBetween, PairIn};
+ghost use Rattle.sweeps.specs.Promise.{PutsReach};
 ghost use Rattle.sweeps.specs.Passes.{Pass, AllTaken};
 use relation::diagonal;
 use relation::join;
@@ -80,7 +80,7 @@ fn settle(room: &mut [u32], m: u32, pairs: &[u32], parts: &[u32])
 
 // The least relation on the numbers below m that has the listed pairs, in which each number reaches itself, and chains count. A room that is short is refused and left as it was.
 pub fn put_reach(room: &mut [u32], m: u32, pairs: &[u32], parts: &[u32]) -> bool
-    ensures { λ r. ⌜ Writes (Reach (PairIn (now (pairs .entry)) m)) (now (room .entry)) (now (room .exit)) m r ⌝ }
+    ensures { λ r. ⌜ PutsReach (now (room .entry)) m (now (pairs .entry)) (now (room .exit)) r ⌝ }
 {
     if !diagonal(room, m) {
         return false;

@@ -1,8 +1,8 @@
 // For each row, where its thread begins.
-ghost use mathlib.Core.Path.{_≡_};
 ghost use Prim.Native.Nat.{_≤_};
 ghost use lib.ListN.{length};
-ghost use Rattle.tables.specs.Heads.{ownHead, Fills, Heads};
+ghost use Rattle.tables.specs.Heads.{Fills, Heads};
+ghost use Rattle.tables.specs.Promise.{AnswersIsFirst};
 use crate::threads::least;
 
 // `head` is stored from `from` to before `to`.
@@ -36,7 +36,7 @@ pub fn put_heads(lengths: &[u32], heads: &mut [usize])
 
 // Is row c its own head, and so the first of its thread? What stands past the room counts as 0.
 pub fn is_first(heads: &[usize], c: usize) -> bool
-    ensures { λ r. ⌜ r ≡ ownHead (now (heads .entry)) c ⌝ }
+    ensures { λ r. ⌜ AnswersIsFirst (now (heads .entry)) c r ⌝ }
 {
     if heads.len() <= c {
         return c == 0;

@@ -1,46 +1,40 @@
--- Two answers that meet the contract of a public function for the same inputs are equal. Assumes nothing.
+-- Two answers that meet the contract of a public function for the same inputs are equal; of `at` that is relation's `at-one`. Assumes nothing.
 use mathlib.Core.Path.{_≡_, sym, _∙_}
 use mathlib.Core.Bool.{Bool}
 use mathlib.Core.List.{List}
 use Prim.Native.Nat.{ℕ}
-use lib.ListN.{length, getD, set}
-use Rattle.tables.specs.Lowest.{lowest}
 use Rattle.sets.specs.declared.Set.{Set}
 use Rattle.turns.specs.declared.ready.Ready.{Ready}
-use Rattle.turns.specs.Turns.{held, settled, mayGo, mayStep}
-use Rattle.turns.specs.Ready.{noneReady, looked, heldBelow, heldAfter, chosen}
+use Rattle.turns.specs.Promise.{PutsNumber, Settles, AnswersLowestBlocked, AnswersBlockedSet, AnswersBlockedAfter, AnswersAllows, AnswersLowestAllowed, AnswersReadyNone, AnswersLook, AnswersChoose}
 
-pub at-one : (numbers : List ℕ) (i : ℕ) {r s : ℕ} → r ≡ getD numbers i 0 → s ≡ getD numbers i 0 → r ≡ s
-at-one numbers i e f = e ∙ sym f
-
-pub put-one : (numbers : List ℕ) (i x : ℕ) {r s : List ℕ} → r ≡ set numbers i x → s ≡ set numbers i x → r ≡ s
+pub put-one : (numbers : List ℕ) (i x : ℕ) {r s : List ℕ} → PutsNumber numbers i x r → PutsNumber numbers i x s → r ≡ s
 put-one numbers i x e f = e ∙ sym f
 
-pub settle-one : (t wait frees : ℕ) (waits : List ℕ) {r s : List ℕ} → r ≡ settled t wait frees waits → s ≡ settled t wait frees waits → r ≡ s
-settle-one t wait frees waits e f = e ∙ sym f
+pub settle-one : (waits : List ℕ) (t wait frees : ℕ) {r s : List ℕ} → Settles waits t wait frees r → Settles waits t wait frees s → r ≡ s
+settle-one waits t wait frees e f = e ∙ sym f
 
-pub lowest-blocked-one : (waits : List ℕ) (threads : ℕ) {r s : ℕ} → r ≡ lowest (held waits) threads → s ≡ lowest (held waits) threads → r ≡ s
+pub lowest-blocked-one : (waits : List ℕ) (threads : ℕ) {r s : ℕ} → AnswersLowestBlocked waits threads r → AnswersLowestBlocked waits threads s → r ≡ s
 lowest-blocked-one waits threads e f = e ∙ sym f
 
-pub blocked-set-one : (lengths waits : List ℕ) {r s : Set} → r ≡ heldBelow waits (length lengths) → s ≡ heldBelow waits (length lengths) → r ≡ s
+pub blocked-set-one : (lengths waits : List ℕ) {r s : Set} → AnswersBlockedSet lengths waits r → AnswersBlockedSet lengths waits s → r ≡ s
 blocked-set-one lengths waits e f = e ∙ sym f
 
-pub blocked-after-one : (lengths waits : List ℕ) (t wait frees : ℕ) (blocked : Set) {r s : Set} → r ≡ heldAfter waits (length lengths) t wait frees blocked
-    → s ≡ heldAfter waits (length lengths) t wait frees blocked → r ≡ s
-blocked-after-one lengths waits t wait frees blocked e f = e ∙ sym f
+pub blocked-after-one : (blocked : Set) (lengths waits : List ℕ) (t wait frees : ℕ) {r s : Set} → AnswersBlockedAfter blocked lengths waits t wait frees r
+    → AnswersBlockedAfter blocked lengths waits t wait frees s → r ≡ s
+blocked-after-one blocked lengths waits t wait frees e f = e ∙ sym f
 
-pub allows-one : (lengths : List ℕ) (t n wait : ℕ) {r s : Bool} → r ≡ mayGo lengths t n wait → s ≡ mayGo lengths t n wait → r ≡ s
+pub allows-one : (lengths : List ℕ) (t n wait : ℕ) {r s : Bool} → AnswersAllows lengths t n wait r → AnswersAllows lengths t n wait s → r ≡ s
 allows-one lengths t n wait e f = e ∙ sym f
 
-pub lowest-allowed-one : (lengths next waits : List ℕ) {r s : ℕ} → r ≡ lowest (mayStep lengths next waits) (length lengths)
-    → s ≡ lowest (mayStep lengths next waits) (length lengths) → r ≡ s
+pub lowest-allowed-one : (lengths next waits : List ℕ) {r s : ℕ} → AnswersLowestAllowed lengths next waits r → AnswersLowestAllowed lengths next waits s → r ≡ s
 lowest-allowed-one lengths next waits e f = e ∙ sym f
 
-pub none-one : {r s : Ready} → r ≡ noneReady → s ≡ noneReady → r ≡ s
+pub none-one : {r s : Ready} → AnswersReadyNone r → AnswersReadyNone s → r ≡ s
 none-one e f = e ∙ sym f
 
-pub look-one : (lengths : List ℕ) (early : List Bool) (a : Ready) (t n x : ℕ) {r s : Ready} → r ≡ looked lengths early a t n x → s ≡ looked lengths early a t n x → r ≡ s
-look-one lengths early a t n x e f = e ∙ sym f
+pub look-one : (ready : Ready) (lengths : List ℕ) (early : List Bool) (t n x : ℕ) {r s : Ready} → AnswersLook ready lengths early t n x r
+    → AnswersLook ready lengths early t n x s → r ≡ s
+look-one ready lengths early t n x e f = e ∙ sym f
 
-pub choose-one : (a : Ready) (blocked : Set) {r s : ℕ} → r ≡ chosen a blocked → s ≡ chosen a blocked → r ≡ s
-choose-one a blocked e f = e ∙ sym f
+pub choose-one : (ready : Ready) (blocked : Set) {r s : ℕ} → AnswersChoose ready blocked r → AnswersChoose ready blocked s → r ≡ s
+choose-one ready blocked e f = e ∙ sym f

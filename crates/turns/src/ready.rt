@@ -1,7 +1,7 @@
 // The sets that a schedule writer keeps: who has a command left, and whose next command goes first.
 ghost use mathlib.Core.Path.{_≡_};
 ghost use Rattle.turns.specs.Turns.{goesFirst};
-ghost use Rattle.turns.specs.Ready.{noneReady, looked, chosen};
+ghost use Rattle.turns.specs.Promise.{AnswersReadyNone, AnswersLook, AnswersChoose};
 use crate::choice::has_left;
 use sets::Set;
 use tables::Table;
@@ -23,7 +23,7 @@ fn goes_first(early: &[bool], x: usize) -> bool
 
 impl Ready {
     pub fn none() -> Self
-        ensures { λ r. ⌜ r ≡ noneReady ⌝ }
+        ensures { λ r. ⌜ AnswersReadyNone r ⌝ }
     {
         Ready {
             left: Set::none(),
@@ -33,7 +33,7 @@ impl Ready {
 
     // Thread t is looked at, which has run n commands and of which x is the next.
     pub fn look(self, lengths: &[u32], early: &[bool], t: usize, n: u32, x: usize) -> Self
-        ensures { λ r. ⌜ r ≡ looked (now (lengths .entry)) (now (early .entry)) self t n x ⌝ }
+        ensures { λ r. ⌜ AnswersLook self (now (lengths .entry)) (now (early .entry)) t n x r ⌝ }
     {
         let left = has_left(lengths, t, n);
         let first = left & goes_first(early, x);
@@ -45,7 +45,7 @@ impl Ready {
 
     // The lowest thread that is not blocked and goes first, or else the lowest that is not blocked and has a command left, or the limit.
     pub fn choose(self, blocked: Set) -> usize
-        ensures { λ r. ⌜ r ≡ chosen self blocked ⌝ }
+        ensures { λ r. ⌜ AnswersChoose self blocked r ⌝ }
     {
         let t = self.first.lowest_but(blocked);
         if t < Table::THREADS {

@@ -1,15 +1,14 @@
 // What threads wait for: 0, or a barrier plus 1.
 ghost use mathlib.Core.Path.{_≡_};
-ghost use lib.ListN.{length, getD, set};
-ghost use Rattle.tables.specs.Lowest.{lowest};
-ghost use Rattle.turns.specs.Turns.{held, letGo, released, settled};
-ghost use Rattle.turns.specs.Ready.{heldBelow, heldAfter};
+ghost use Rattle.relation.specs.Promise.{AnswersAt};
+ghost use Rattle.turns.specs.Turns.{held, letGo, released};
+ghost use Rattle.turns.specs.Promise.{PutsNumber, Settles, AnswersLowestBlocked, AnswersBlockedSet, AnswersBlockedAfter};
 use sets::Set;
 use tables::Table;
 
 // The number at a place, or 0 past the end.
 pub fn at(numbers: &[u32], i: usize) -> u32
-    ensures { λ r. ⌜ r ≡ getD (now (numbers .entry)) i 0 ⌝ }
+    ensures { λ r. ⌜ AnswersAt (now (numbers .entry)) i r ⌝ }
 {
     if i < numbers.len() {
         return numbers[i];
@@ -19,7 +18,7 @@ pub fn at(numbers: &[u32], i: usize) -> u32
 
 // A number is put at a place; past the end there is none.
 pub fn put(numbers: &mut [u32], i: usize, x: u32)
-    ensures { λ _. ⌜ now (numbers .exit) ≡ set (now (numbers .entry)) i x ⌝ }
+    ensures { λ _. ⌜ PutsNumber (now (numbers .entry)) i x (now (numbers .exit)) ⌝ }
 {
     if i < numbers.len() {
         numbers[i] = x;
@@ -53,7 +52,7 @@ fn release(waits: &mut [u32], w: u32)
 
 // Thread t waits for `wait`, and then those are released who wait for `frees`. Where that is 0 there is nobody to look for.
 pub fn settle(waits: &mut [u32; Table::THREADS], t: usize, wait: u32, frees: u32)
-    ensures { λ _. ⌜ now (waits .exit) ≡ settled t wait frees (now (waits .entry)) ⌝ }
+    ensures { λ _. ⌜ Settles (now (waits .entry)) t wait frees (now (waits .exit)) ⌝ }
 {
     put(waits, t, wait);
     if frees != 0 {
@@ -63,7 +62,7 @@ pub fn settle(waits: &mut [u32; Table::THREADS], t: usize, wait: u32, frees: u32
 
 // The lowest of some threads that is blocked, or their number.
 pub fn lowest_blocked(waits: &[u32], threads: usize) -> usize
-    ensures { λ r. ⌜ r ≡ lowest (held (now (waits .entry))) threads ⌝ }
+    ensures { λ r. ⌜ AnswersLowestBlocked (now (waits .entry)) threads r ⌝ }
 {
     let mut t = 0;
     while t < threads {
@@ -77,7 +76,7 @@ pub fn lowest_blocked(waits: &[u32], threads: usize) -> usize
 
 // Which of the table's threads are blocked.
 pub fn blocked_set(lengths: &[u32], waits: &[u32]) -> Set
-    ensures { λ r. ⌜ r ≡ heldBelow (now (waits .entry)) (length (now (lengths .entry))) ⌝ }
+    ensures { λ r. ⌜ AnswersBlockedSet (now (lengths .entry)) (now (waits .entry)) r ⌝ }
 {
     let mut blocked = Set::none();
     let mut t = 0;
@@ -97,7 +96,7 @@ pub fn blocked_after(
     wait: u32,
     frees: u32,
 ) -> Set
-    ensures { λ r. ⌜ r ≡ heldAfter (now (waits .entry)) (length (now (lengths .entry))) t wait frees blocked ⌝ }
+    ensures { λ r. ⌜ AnswersBlockedAfter blocked (now (lengths .entry)) (now (waits .entry)) t wait frees r ⌝ }
 {
     if frees == 0 {
         return blocked.put(t, wait != 0);

@@ -5,6 +5,7 @@ ghost use Prim.Native.Nat.{_^_, _<_, _≤_};
 ghost use Rattle.warps.specs.Language.{test};
 ghost use Rattle.kernels.specs.Limits.{mostExpressions};
 ghost use Rattle.values.specs.Expressions.{expression, acting};
+ghost use Rattle.values.specs.Promise.{AnswersActingLanes};
 ghost use Rattle.values.specs.Parts.{CanFill, Zeroed};
 use crate::rows::value;
 use crate::wide::fill_rows;
@@ -80,7 +81,7 @@ fn acting_several(expressions: &[u32], root: usize, mask: u32, count: u32, cells
 
 // The lanes of a mask for which row `root` is not 0; there are none past the limit.
 pub fn acting_lanes(expressions: &[u32], root: usize, mask: u32, cells: &[u32]) -> u32
-    ensures { λ r. ⌜ r ≡ acting mask (expression (now (expressions .entry)) root) (now (cells .entry)) 32 ⌝ }
+    ensures { λ r. ⌜ AnswersActingLanes (now (expressions .entry)) root mask (now (cells .entry)) r ⌝ }
 {
     if root >= Kernel::EXPRESSIONS {
         return 0;

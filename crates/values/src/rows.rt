@@ -4,10 +4,10 @@ ghost use mathlib.Core.Bool.{cond};
 ghost use Prim.Native.Nat.{ℕ, _<_, _≤_};
 ghost use lib.Dec.{ltb};
 ghost use lib.ListN.{length, getD};
-ghost use Rattle.warps.specs.Language.{eval};
+ghost use Rattle.relation.specs.Promise.{AnswersAt};
 ghost use Rattle.kernels.specs.Limits.{mostExpressions};
 ghost use Rattle.kernels.specs.Rows.{sumExpr};
-ghost use Rattle.values.specs.Expressions.{expression};
+ghost use Rattle.values.specs.Promise.{AnswersValue};
 ghost use Rattle.values.specs.Parts.{valueBy, rowBy};
 use kernels::Kernel;
 
@@ -16,7 +16,7 @@ const FEW: usize = 32;
 
 // The number at a place, or 0 past the end.
 pub fn at(numbers: &[u32], i: usize) -> u32
-    ensures { λ r. ⌜ r ≡ getD (now (numbers .entry)) i 0 ⌝ }
+    ensures { λ r. ⌜ AnswersAt (now (numbers .entry)) i r ⌝ }
 {
     if i < numbers.len() {
         return numbers[i];
@@ -82,7 +82,7 @@ fn row_value(expressions: &[u32], i: usize, lane: u32, cells: &[u32], values: &[
 // The value of row `root` for a lane, with room for those of the rows before it; what the room holds does not count.
 fn evaluate(expressions: &[u32], root: usize, lane: u32, cells: &[u32], values: &mut [u32]) -> u32
     requires { ⌜ (root < mostExpressions) × (root < length (now values)) ⌝ }
-    ensures { λ r. ⌜ r ≡ eval (expression (now (expressions .entry)) root) lane (now (cells .entry)) ⌝ }
+    ensures { λ r. ⌜ AnswersValue (now (expressions .entry)) root lane (now (cells .entry)) r ⌝ }
 {
     let mut i = 0;
     while i <= root {
@@ -94,7 +94,7 @@ fn evaluate(expressions: &[u32], root: usize, lane: u32, cells: &[u32], values: 
 
 // The value of row `root` for a lane, or 0 past the limit.
 pub fn value(expressions: &[u32], root: usize, lane: u32, cells: &[u32]) -> u32
-    ensures { λ r. ⌜ r ≡ eval (expression (now (expressions .entry)) root) lane (now (cells .entry)) ⌝ }
+    ensures { λ r. ⌜ AnswersValue (now (expressions .entry)) root lane (now (cells .entry)) r ⌝ }
 {
     if root < FEW {
         let mut values = [0u32; FEW];

@@ -36,7 +36,8 @@ use denote.Triple.Walked.{says, Stays, stay-none, stay-none-slice, walkOf, goes-
 use denote.Exit.{yes}
 use denote.Triple.Clauses.{ensured, lasts}
 use Rattle.reader.specs.declared.Reader.{Reader}
-use Rattle.reader.proofs.Standing.{B, Lent, val, IsRest, New, TokenMove, to-new, goes-new, new-said, to-moved, goes-moved, moved-said}
+use Rattle.reader.specs.Promise.{AnswersRest}
+use Rattle.reader.proofs.Standing.{B, Lent, val, New, TokenMove, to-new, goes-new, new-said, to-moved, goes-moved, moved-said}
 use Rattle.reader.proofs.Reader as T
 use Rattle.reader.proofs.Reader.Laws as T′
 use Rattle.reader.proofs.Reader.new as new
@@ -85,10 +86,10 @@ module _ {M : Type 1} (𝓤 : URA M) (H : Heap 𝓤) (A : Atoms 𝓤) (W : Given
   goes-rest : (r : Reader) (u : Val) → ent 𝓤 (⋆ 𝓤 H A (‵ (B (κ, tt) .own r (u ∷ [])) ∷ (‵ (flft κ q) ⊛ ‵ ftrue) ∷ [])) (Rest 𝓤 H A mem run .pre (to-rest r u))
   goes-rest r u = qed W (‵ (B (κ, tt) .own r (u ∷ [])) ∷ (‵ (flft κ q) ⊛ ‵ ftrue) ∷ []) ∵ nothing ! $ move ! (1 ∷ 0 ∷ []) $ fjoin ! $ move ! (1 ∷ 0 ∷ []) $ join ! $ frame ! $ done !
 
-  rest-said : (r : Reader) (t : RefT (List ℕ)) → ent 𝓤 (ensured 𝓤 H A rest.ended (rest.clauses 𝓤 H A mem run) (κ, tt) (r, tt) tt t) (fact 𝓤 (IsRest (r .text) (r .at) t))
-  rest-said r t = exE 𝓤 _ (λ ws. snd∗ 𝓤 (sem 𝓤 H A (lasts rest.ended (κ, tt) (r, tt) ws)) (fact 𝓤 (IsRest (r .text) (r .at) t)))
+  rest-said : (r : Reader) (t : RefT (List ℕ)) → ent 𝓤 (ensured 𝓤 H A rest.ended (rest.clauses 𝓤 H A mem run) (κ, tt) (r, tt) tt t) (fact 𝓤 (AnswersRest (r .text) (r .at) t))
+  rest-said r t = exE 𝓤 _ (λ ws. snd∗ 𝓤 (sem 𝓤 H A (lasts rest.ended (κ, tt) (r, tt) ws)) (fact 𝓤 (AnswersRest (r .text) (r .at) t)))
 
-  exits : (t : RefT (List ℕ)) (u : Val) → IsRest s n t → ent 𝓤 (⋆ 𝓤 H A (‵ (Lent κ .own t (u ∷ [])) ∷ (‵ (flft κ q) ⊛ ‵ ftrue) ∷ ‵ Own ∷ [])) (Post u)
+  exits : (t : RefT (List ℕ)) (u : Val) → AnswersRest s n t → ent 𝓤 (⋆ 𝓤 H A (‵ (Lent κ .own t (u ∷ [])) ∷ (‵ (flft κ q) ⊛ ‵ ftrue) ∷ ‵ Own ∷ [])) (Post u)
   exits t u e =
       qed W (‵ (Lent κ .own t (u ∷ [])) ∷ (‵ (flft κ q) ⊛ ‵ ftrue) ∷ ‵ Own ∷ []) ∵
       suffices ! _ (ends-at 𝓤 H A rest-from.ended stayed (rest-from.clauses 𝓤 H A mem run) W (((κ, tt), (q, tt), tt, (s, (n, tt)), at), tt) u t (tt, (tt, tt)) (tt, (tt, tt))) $ says ! e $
@@ -116,13 +117,13 @@ module _ {M : Type 1} (𝓤 : URA M) (H : Heap 𝓤) (A : Atoms 𝓤) (W : Given
         use2 W (raw (Rest 𝓤 H A mem run .pre (to-rest r′ u′))) (goes-rest r′ u′) $
         calls-at ! fm (Rest 𝓤 H A mem run) known-rest (to-rest r′ u′) (and-then ! (load ! (from ! (stop !)) (look ! 4 refl)) (no-more !)) (λ u″.
         use1 W (later (some (λ (t : RefT (List ℕ)). ((‵ (flft κ q) ⊛ ‵ ftrue) ⊛ ‵ (Lent κ .own t (u″ ∷ []))) ⊛ raw (ensured 𝓤 H A rest.ended (rest.clauses 𝓤 H A mem run) (κ, tt) (r′, tt) tt t)))) (id⊢ 𝓤 _) $ await ! tt $ pick ! (λ t.
-        split ! $ move ! (1 ∷ []) $ use1 W (raw (fact 𝓤 (IsRest (r′ .text) (r′ .at) t))) (rest-said r′ t) $ heard ! (IsRest (r′ .text) (r′ .at) t) (λ e″. split ! $ move ! (1 ∷ []) $
+        split ! $ move ! (1 ∷ []) $ use1 W (raw (fact 𝓤 (AnswersRest (r′ .text) (r′ .at) t))) (rest-said r′ t) $ heard ! (AnswersRest (r′ .text) (r′ .at) t) (λ e″. split ! $ move ! (1 ∷ []) $
         -- [the result; the lifetime's token; what the text owns; _4; …; _3; …; _2; …; _1; …; room for _0; …]
         peeks ! (Lent κ) (Is (Lent κ)) (shows 𝓤 H A (Lent κ)) t (u″ ∷ []) (λ is″.
         land ! (from ! (stop !)) (init ! 11 refl (shr-slice-lawful 𝓤 H A W (named 0) κ u8 .typed t (u″ ∷ []) is″ .0)) $
         returns ! (look ! 11 refl) $ forget ! 3 refl $ forget ! 5 refl $ forget ! 7 refl $ forget ! 9 refl $ forget ! 11 refl $
         move ! (11 ∷ 12 ∷ []) $ free1 ! $ move ! (9 ∷ 10 ∷ []) $ free1 ! $ move ! (7 ∷ 8 ∷ []) $ free1 ! $ move ! (5 ∷ 6 ∷ []) $ free1 ! $ move ! (3 ∷ 4 ∷ []) $ free1 ! $ free0 ! $
-        by ! (exits t u″ (subst (λ (m : ℕ). IsRest s m t) (e′ .1) (subst (λ (x : RefT (List ℕ)). IsRest x (r′ .at) t) (e′ .0 ∙ e .0) e″))))))))))))))))))))
+        by ! (exits t u″ (subst (λ (m : ℕ). AnswersRest s m t) (e′ .1) (subst (λ (x : RefT (List ℕ)). AnswersRest x (r′ .at) t) (e′ .0 ∙ e .0) e″))))))))))))))))))))
 
 module _ {M : Type 1} (𝓤 : URA M) (H : Heap 𝓤) (A : Atoms 𝓤) (W : Given 𝓤 H A) (mem : Memory → SProp 𝓤) (run : Routine → Fun 𝓤) where
   rest-from-walks : (C : Calls 𝓤 H) (Λ : Loops 𝓤 H) → FmC 𝓤 H (W .laws) C → Triple 𝓤 (C #reader·Reader·new) (New 𝓤 H A mem run) → Triple 𝓤 (C #reader·Reader·moved) (TokenMove 𝓤 H A mem run) → Triple 𝓤 (C #reader·Reader·rest) (Rest 𝓤 H A mem run)

@@ -37,7 +37,8 @@ use denote.Triple.Walked.{says, Stays, stay-none, walkOf, goes-none, Walks, ends
 use denote.Exit.{yes}
 use denote.Triple.Clauses.{ensured, lasts}
 use Rattle.reader.specs.declared.Reader.{Reader}
-use Rattle.reader.proofs.Standing.{B, Lent, val, IsRest, apart}
+use Rattle.reader.specs.Promise.{AnswersRest}
+use Rattle.reader.proofs.Standing.{B, Lent, val, apart}
 use Rattle.reader.proofs.Reader as T
 use Rattle.reader.proofs.Reader.Laws as T′
 use Rattle.reader.proofs.tail as tail
@@ -78,10 +79,10 @@ module _ {M : Type 1} (𝓤 : URA M) (H : Heap 𝓤) (A : Atoms 𝓤) (W : Given
   asked = qed W ((‵ (flft κ q) ⊛ ‵ ftrue) ∷ ‵ (owns (Lent κ ∷ usize ∷ []) (d .text, (d .at, tt)) passed) ∷ []) ∵ join ! $ frame ! $ done !
 
   -- of the callee's `ensured`, the clause alone: it has no `&mut`, so what is said of last values is dropped
-  said : (r : RefT (List ℕ)) → ent 𝓤 (ensured 𝓤 H A tail.ended (tail.clauses 𝓤 H A mem run) (κ, tt) (d .text, (d .at, tt)) tt r) (fact 𝓤 (IsRest (d .text) (d .at) r))
-  said r = exE 𝓤 _ (λ ws. snd∗ 𝓤 (sem 𝓤 H A (lasts tail.ended (κ, tt) (d .text, (d .at, tt)) ws)) (fact 𝓤 (IsRest (d .text) (d .at) r)))
+  said : (r : RefT (List ℕ)) → ent 𝓤 (ensured 𝓤 H A tail.ended (tail.clauses 𝓤 H A mem run) (κ, tt) (d .text, (d .at, tt)) tt r) (fact 𝓤 (AnswersRest (d .text) (d .at) r))
+  said r = exE 𝓤 _ (λ ws. snd∗ 𝓤 (sem 𝓤 H A (lasts tail.ended (κ, tt) (d .text, (d .at, tt)) ws)) (fact 𝓤 (AnswersRest (d .text) (d .at) r)))
 
-  exits : (r : RefT (List ℕ)) (u : Val) → IsRest (d .text) (d .at) r → ent 𝓤 (⋆ 𝓤 H A (‵ (Lent κ .own r (u ∷ [])) ∷ (‵ (flft κ q) ⊛ ‵ ftrue) ∷ ‵ Own ∷ [])) (Post u)
+  exits : (r : RefT (List ℕ)) (u : Val) → AnswersRest (d .text) (d .at) r → ent 𝓤 (⋆ 𝓤 H A (‵ (Lent κ .own r (u ∷ [])) ∷ (‵ (flft κ q) ⊛ ‵ ftrue) ∷ ‵ Own ∷ [])) (Post u)
   exits r u e =
       qed W (‵ (Lent κ .own r (u ∷ [])) ∷ (‵ (flft κ q) ⊛ ‵ ftrue) ∷ ‵ Own ∷ []) ∵
       suffices ! _ (ends-at 𝓤 H A rest.ended stayed (rest.clauses 𝓤 H A mem run) W (((κ, tt), (q, tt), tt, (d, tt), (mach ∷ [], tt)), tt) u r (tt, tt) (tt, tt)) $ says ! e $
@@ -97,7 +98,7 @@ module _ {M : Type 1} (𝓤 : URA M) (H : Heap 𝓤) (A : Atoms 𝓤) (W : Given
         move ! (8 ∷ []) $ use1 W (raw (Tail 𝓤 H A mem run .pre to) ⊛ ‵ Own) (apart 𝓤 H A W κ q d (Tail 𝓤 H A mem run .pre to) asked (wt .1 .1 .0 .fits)) $ split ! $
         calls-at ! fm (Tail 𝓤 H A mem run) known to (and-then ! (load ! (from ! (stop !)) (look ! 4 refl)) (and-then ! (load ! (from ! (stop !)) (look ! 2 refl)) (no-more !))) (λ u.
         use1 W (later (some (λ (r : RefT (List ℕ)). ((‵ (flft κ q) ⊛ ‵ ftrue) ⊛ ‵ (Lent κ .own r (u ∷ []))) ⊛ raw (ensured 𝓤 H A tail.ended (tail.clauses 𝓤 H A mem run) (κ, tt) (d .text, (d .at, tt)) tt r)))) (id⊢ 𝓤 _) $ await ! tt $ pick ! (λ r.
-        split ! $ move ! (1 ∷ []) $ use1 W (raw (fact 𝓤 (IsRest (d .text) (d .at) r))) (said r) $ heard ! (IsRest (d .text) (d .at) r) (λ e. split ! $ move ! (1 ∷ []) $
+        split ! $ move ! (1 ∷ []) $ use1 W (raw (fact 𝓤 (AnswersRest (d .text) (d .at) r))) (said r) $ heard ! (AnswersRest (d .text) (d .at) r) (λ e. split ! $ move ! (1 ∷ []) $
         -- [the result; the lifetime's token; what the reader owns; _3; …; _2; …; _1; …; room for _0; …]
         peeks ! (Lent κ) (Is (Lent κ)) (shows 𝓤 H A (Lent κ)) r (u ∷ []) (λ is.
         land ! (from ! (stop !)) (init ! 9 refl (shr-slice-lawful 𝓤 H A W (named 0) κ u8 .typed r (u ∷ []) is .0)) $

@@ -1,0 +1,10 @@
+-- What the public function promises.
+use mathlib.Core.Bool.{Bool}
+use mathlib.Core.List.{List}
+use Prim.Native.Nat.{ℕ}
+use Rattle.relation.specs.Chains.{Chain}
+use Rattle.relation.specs.Table.{Related, Writes}
+
+-- `close`
+abbrev pub Closes : (room : List ℕ) (m : ℕ) (room′ : List ℕ) (r : Bool) → Type 0
+Closes room m room′ r = Writes (Chain (Related room m)) room room′ m r

@@ -1,0 +1,10 @@
+-- What `bare` promises; for `find_faults` that is `Finds`.
+use mathlib.Core.Path.{_≡_}
+use mathlib.Core.List.{[]}
+use Rattle.verdicts.specs.declared.Verdict.{Verdict}
+use Rattle.sheet.specs.Sheet.{sheetOf}
+use Rattle.findings.specs.declared.finding.Finding.{Finding}
+
+-- `bare`
+abbrev pub AnswersBare : (verdict : Verdict) (r : Finding) → Type 0
+AnswersBare verdict r = r ≡ record { verdict = verdict; sheet = sheetOf [] }
