@@ -13,7 +13,7 @@ use Rattle.relation.specs.Table.{width, words, Related, Holds}
 use Rattle.relation.proofs.Truth.{both, pair}
 use Rattle.relation.proofs.Chains.{chain-map, rounds-zero, rounds-suc, decides}
 use Rattle.relation.proofs.Rooms.{wide, related-at, related-inside}
-use Rattle.closing.specs.Rows.{RowsAre, trimmed}
+use Rattle.closing.specs.Needs.{RowsAre, trimmed}
 
 -- a column that is empty stays so
 rounds-none : (f : ℕ → ℕ → Bool) (m k i j : ℕ) → ((i : ℕ) → i < m → f i j ≡ false) → k ≤ m → i < m → rounds f k i j ≡ false

@@ -10,7 +10,7 @@ use mathlib.Core.Bool.{Bool}
 use mathlib.Core.List.{List}
 use Rattle.relation.specs.Bits.{bitAt, RowIs}
 use Rattle.relation.proofs.Rows.{by-word, other-row}
-use Rattle.closing.specs.Rows.{RowsAre}
+use Rattle.closing.specs.Needs.{RowsAre}
 
 pub rows-none : (b : List ℕ) (w : ℕ) (f : ℕ → ℕ → Bool) → RowsAre b b w 0 f
 rows-none b w f = record { len = refl; bits = λ i j h. absurd (omega arith); kept = λ p h. refl }

@@ -11,12 +11,13 @@ use lib.Dec.{ltb}
 use lib.ListN.{length, getD, set, length-set}
 use lib.Seq.{getD-set-same, getD-set-other}
 use borrow.Author.Tests.{lt-ltb, le-ltb}
-use Rattle.relation.specs.Bits.{bitAt, RowIn, RowIs}
+use Rattle.relation.specs.Bits.{bitAt, RowIs}
+use Rattle.relation.specs.Needs.{RowIn}
 use Rattle.relation.specs.Table.{width}
 use Rattle.relation.proofs.Words.{one-shl}
 use Rattle.relation.proofs.Rows.{by-word, by-cut, off-row}
 use Rattle.relation.proofs.Rooms.{last-word, full-rows}
-use Rattle.closing.specs.Rows.{RowsAre, trimmed}
+use Rattle.closing.specs.Needs.{RowsAre, trimmed}
 use Rattle.closing.proofs.Rows.{rows-more, not-done}
 
 -- within one word of a row the order of the bits is the order in the word

@@ -13,7 +13,7 @@ use Rattle.relation.specs.Bits.{bitAt, RowIs}
 use Rattle.relation.specs.Table.{width, inside, related, Joins}
 use Rattle.relation.proofs.Chains.{rounds-zero, rounds-suc}
 use Rattle.relation.proofs.Rooms.{place, related-at}
-use Rattle.closing.specs.Rows.{RowsAre, joinedIf}
+use Rattle.closing.specs.Needs.{RowsAre, joinedIf}
 use Rattle.closing.proofs.Rows.{rows-more, not-done}
 
 -- ---- one round: the rows below i are joined

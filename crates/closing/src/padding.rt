@@ -1,9 +1,10 @@
 // The bits of a row from m on, cleared.
 ghost use Prim.Native.Nat.{_+_, _/_, _≤_};
 ghost use lib.ListN.{length};
-ghost use Rattle.relation.specs.Bits.{RowIn, RowIs};
+ghost use Rattle.relation.specs.Bits.{RowIs};
+ghost use Rattle.relation.specs.Needs.{RowIn};
 ghost use Rattle.relation.specs.Table.{width, words};
-ghost use Rattle.closing.specs.Rows.{RowsAre, trimmed};
+ghost use Rattle.closing.specs.Needs.{RowsAre, trimmed};
 
 // The padding of row i is cleared, in rows of one word more than m fills: rows that have padding are so.
 fn trim_row(room: &mut [u32], m: u32, i: u32)

@@ -7,7 +7,7 @@ ghost use lib.ListN.{length};
 ghost use Rattle.relation.specs.Chains.{rounds};
 ghost use Rattle.relation.specs.Bits.{bitAt, RowIs};
 ghost use Rattle.relation.specs.Table.{width, words, inside};
-ghost use Rattle.closing.specs.Rows.{RowsAre, joinedIf};
+ghost use Rattle.closing.specs.Needs.{RowsAre, joinedIf};
 use relation::join;
 use relation::related;
 

@@ -12,7 +12,8 @@ use Rattle.relation.specs.Table.{related}
 use Rattle.sheet.specs.declared.Sheet.{Sheet}
 use Rattle.sheet.specs.Sheet.{keptPairs, firstKept}
 use Rattle.rooms.specs.Refusals.{reviewRefusal}
-use Rattle.rooms.specs.Rooms.{numberAt, Roomy}
+use Rattle.rooms.specs.Rooms.{numberAt}
+use Rattle.rooms.specs.Needs.{Roomy}
 use Rattle.rooms.proofs.Refusals.{admitted}
 use Rattle.exhibits.specs.Exhibits.{reuseExhibit, raceExhibits, exhibits, exhibited}
 

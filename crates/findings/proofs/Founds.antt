@@ -13,7 +13,7 @@ use Rattle.sheet.specs.Sheet.{sheetOf}
 use Rattle.findings.specs.declared.finding.Finding.{Finding}
 use Rattle.rooms.specs.Refusals.{sizeRefusal}
 use Rattle.findings.specs.Findings.{Finds}
-use Rattle.findings.specs.Searches.{LookedOver}
+use Rattle.findings.specs.Needs.{LookedOver}
 
 module _ (commands lengths generations relation : List ℕ) where
   abbrev told : Told

@@ -20,8 +20,7 @@ use Rattle.faults.specs.declared.faults.Fault.{Fault}
 use Rattle.faults.specs.declared.faults.Fault.the-variants.{Reuse, Race}
 use Rattle.faults.specs.Faults.{pairOf, alongRow}
 use Rattle.faults.specs.Tests.{seenAt}
-use Rattle.findings.specs.Searches.{faultAt}
-use Rattle.findings.specs.Lists.{listed, key, wanted, Next, Lists, Candidate, Unlisted}
+use Rattle.findings.specs.Needs.{faultAt, listed, key, wanted, Next, Lists, Candidate, Unlisted}
 use Rattle.faults.proofs.Searched.{along-none, along-found, along-passed, row-length}
 use Rattle.faults.proofs.Tests.{found-reuse, found-race}
 

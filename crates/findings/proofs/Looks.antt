@@ -20,7 +20,7 @@ use Rattle.faults.proofs.Pairs.{all-faults}
 use Rattle.faults.proofs.Tests.{is-faulty}
 use Rattle.findings.specs.declared.finding.Finding.{Finding}
 use Rattle.findings.specs.Findings.{firstPair}
-use Rattle.findings.specs.Searches.{faultAt, allFound, Found, Looked, LookedBy, LookedOver}
+use Rattle.findings.specs.Needs.{faultAt, allFound, Found, Looked, LookedBy, LookedOver}
 
 -- ---- one kind
 

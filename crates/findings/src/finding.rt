@@ -9,7 +9,7 @@ ghost use Rattle.sheet.specs.declared.Pair.{Pair};
 ghost use Rattle.sheet.specs.Sheet.{sheetOf};
 ghost use Rattle.findings.specs.Findings.{Finds};
 ghost use Rattle.findings.specs.Promise.{AnswersBare};
-ghost use Rattle.findings.specs.Searches.{allFound, kindTold, Found, LookedBy, LookedOver};
+ghost use Rattle.findings.specs.Needs.{allFound, kindTold, Found, LookedBy, LookedOver};
 use crate::search::search;
 use faults::Fault;
 use rooms::refuse_sizes;

@@ -3,8 +3,9 @@ ghost use mathlib.Core.Path.{_≡_};
 ghost use Prim.Native.Nat.{_+_, _<_, _^_};
 ghost use Rattle.tables.specs.Limits.{mostRows};
 ghost use Rattle.tables.specs.Rows.{rows, name};
-ghost use Rattle.rooms.specs.Rooms.{numberAt, OneCommand};
-ghost use Rattle.findings.specs.Lists.{listed, barrierList, key, Lists, Candidate, Walks, Unlisted};
+ghost use Rattle.rooms.specs.Rooms.{numberAt};
+ghost use Rattle.rooms.specs.Needs.{OneCommand};
+ghost use Rattle.findings.specs.Needs.{listed, barrierList, key, Lists, Candidate, Walks, Unlisted};
 use faults::Fault;
 use tables::Table;
 

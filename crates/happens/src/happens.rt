@@ -1,6 +1,7 @@
 // Happens-before over offered generations, into its room.
 ghost use lib.ListN.{length};
-ghost use Rattle.rooms.specs.Rooms.{numberAt, Ample};
+ghost use Rattle.rooms.specs.Rooms.{numberAt};
+ghost use Rattle.rooms.specs.Needs.{Ample};
 ghost use Rattle.happens.specs.HappensBefore.{Reached};
 ghost use Rattle.happens.specs.Promise.{PutsHappensBefore};
 use crate::leaders::SEATS;

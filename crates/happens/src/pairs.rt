@@ -5,7 +5,7 @@ ghost use Prim.Native.Nat.{_+_, _*_, _≤_, _<_, _^_};
 ghost use lib.ListN.{length};
 ghost use Rattle.tables.specs.Limits.{mostRows};
 ghost use Rattle.tables.specs.Rows.{rows};
-ghost use Rattle.rooms.specs.Rooms.{OneCommand};
+ghost use Rattle.rooms.specs.Needs.{OneCommand};
 ghost use Rattle.happens.specs.Needs.{Draws, DrawsBelow, Adds, OnePair};
 use crate::edges::follows;
 use crate::edges::meets_row;

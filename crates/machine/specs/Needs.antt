@@ -1,4 +1,4 @@
--- What the parts of a step ask for.
+-- What the parts ask for and pass on; nothing public speaks of it.
 use Prim.Native.Nat.{ℕ, _≤_}
 use mathlib.Core.List.{List}
 use lib.ListN.{length}

@@ -16,7 +16,7 @@ use Rattle.verdicts.proofs.FirstTold.{or-first, or-second, or-either, or-zero}
 use Rattle.relation.specs.Table.{words}
 use Rattle.rooms.specs.Short.{roomOf, firstShort}
 use Rattle.rooms.specs.Refusals.{reviewRooms, reviewRefusal, sizeRefusal}
-use Rattle.rooms.specs.Rooms.{Ample}
+use Rattle.rooms.specs.Needs.{Ample}
 use Rattle.rooms.proofs.Rooms.{more-long, all-long, first-either, none-either}
 
 -- ---- 1 and 4, of the lengths alone

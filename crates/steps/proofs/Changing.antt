@@ -27,7 +27,7 @@ use Rattle.barriers.specs.Barrier.{unset, registration}
 use Rattle.steps.specs.State.{ranSoFar, waiting, barrierAt}
 use Rattle.steps.specs.Step.{enters, allowed, command, meeting, registering, running, stepped}
 use Rattle.steps.specs.Writing.{goesOn}
-use Rattle.steps.specs.Change.{rowAt, threadRow, changing, changed, applied}
+use Rattle.steps.specs.Needs.{rowAt, threadRow, changing, changed, applied}
 
 set-none : (waits : List ℕ) (t : ℕ) → getD waits t 0 ≡ 0 → set waits t 0 ≡ waits
 set-none waits t e = ap (set waits t) (sym e) ∙ set-getD waits t 0

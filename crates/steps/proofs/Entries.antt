@@ -25,7 +25,7 @@ use Rattle.barriers.specs.Counting.{counted}
 use Rattle.steps.specs.Step.{stepped}
 use Rattle.steps.specs.Going.{standing, wentOn, oneOn, goOn}
 use Rattle.steps.specs.Writing.{goesOn}
-use Rattle.steps.specs.Change.{applied}
+use Rattle.steps.specs.Needs.{applied}
 use Rattle.steps.proofs.Stepping.{Found, found-did, found-kept, found-after}
 
 module _ (commands lengths : List ℕ) where

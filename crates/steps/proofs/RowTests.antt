@@ -20,7 +20,7 @@ use Rattle.steps.specs.declared.step.How.the-variants.{Mismatch, Ran}
 use Rattle.steps.specs.declared.step.Did.the-variants.{NotAllowed, Took}
 use Rattle.barriers.specs.Barrier.{registration}
 use Rattle.steps.specs.Step.{enters}
-use Rattle.steps.specs.Change.{plainRow, rowAt, threadRow, waitIf, still, changed}
+use Rattle.steps.specs.Needs.{plainRow, rowAt, threadRow, waitIf, still, changed}
 
 -- ---- a row
 

@@ -26,7 +26,7 @@ use Rattle.barriers.specs.Barrier.{registration}
 use Rattle.steps.specs.State.{ranSoFar, waiting, barrierAt}
 use Rattle.steps.specs.Step.{registering, stepped}
 use Rattle.steps.specs.Writing.{goesOn}
-use Rattle.steps.specs.Change.{threadRow, changed, applied, FirstRows}
+use Rattle.steps.specs.Needs.{threadRow, changed, applied, FirstRows}
 use Rattle.steps.proofs.Changing.{May, stepRow, stepChange, goes-allowed, step-did, step-kept, step-after, row-is, change-is, row-command, goes-so}
 
 -- The row and the change of thread t's step are found.

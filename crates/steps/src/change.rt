@@ -2,7 +2,7 @@
 ghost use mathlib.Core.Path.{_≡_};
 ghost use Prim.Native.Nat.{_<_};
 ghost use Rattle.tables.specs.Limits.{barriers};
-ghost use Rattle.steps.specs.Change.{still, waitIf, changed};
+ghost use Rattle.steps.specs.Needs.{still, waitIf, changed};
 use crate::row::Row;
 use crate::step::Did;
 use crate::step::How;

@@ -5,7 +5,7 @@ ghost use Rattle.tables.specs.Limits.{barriers};
 ghost use Rattle.tables.specs.Lowest.{lowest};
 ghost use Rattle.steps.specs.Ending.{barrierSet};
 ghost use Rattle.steps.specs.Promise.{AnswersEnding};
-ghost use Rattle.steps.specs.Change.{far};
+ghost use Rattle.steps.specs.Needs.{far};
 use crate::state::Replay;
 use tables::Table;
 use tables::first_row;

@@ -2,7 +2,7 @@
 ghost use mathlib.Core.Path.{_≡_};
 ghost use lib.ListN.{getD};
 ghost use Rattle.tables.specs.Limits.{mostThreads};
-ghost use Rattle.steps.specs.Change.{FirstRows};
+ghost use Rattle.steps.specs.Needs.{FirstRows};
 use tables::Table;
 use turns::at;
 

@@ -3,7 +3,7 @@ ghost use mathlib.Core.Path.{_≡_};
 ghost use mathlib.Core.Bool.{true, false};
 ghost use Prim.Native.Nat.{_*_, _<_};
 ghost use Rattle.tables.specs.Limits.{barriers};
-ghost use Rattle.steps.specs.Change.{plainRow, rowAt, threadRow, far};
+ghost use Rattle.steps.specs.Needs.{plainRow, rowAt, threadRow, far};
 use tables::Table;
 use turns::allows;
 use turns::at;

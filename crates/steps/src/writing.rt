@@ -1,7 +1,7 @@
 // The schedule that a choice writes, from any state.
 ghost use Rattle.tables.specs.Limits.{mostThreads};
 ghost use Rattle.turns.proofs.Kept.{LookedBelow};
-ghost use Rattle.steps.specs.Change.{FirstRows};
+ghost use Rattle.steps.specs.Needs.{FirstRows};
 ghost use Rattle.steps.specs.Promise.{WritesOn};
 use crate::change::run_row;
 use crate::firsts::first_rows;

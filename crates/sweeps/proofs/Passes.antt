@@ -10,7 +10,7 @@ use lib.ListN.{length}
 use Rattle.relation.specs.Chains.{Reach, here, goes}
 use Rattle.relation.specs.Bits.{Words, bitAt, sum, RowIs, RowJoined, joined}
 use Rattle.relation.specs.Table.{width, words, inside, Holds, Joins}
-use Rattle.sweeps.specs.Passes.{Joined, none, more, Takes, Pass, At, SoundTable}
+use Rattle.sweeps.specs.Needs.{Joined, none, more, Takes, Pass, At, SoundTable}
 use Rattle.relation.proofs.Truth.{split, isnt, clashing, either, neither, left, right}
 use Rattle.relation.proofs.Chains.{reach-join}
 use Rattle.relation.proofs.Rows.{other-row}

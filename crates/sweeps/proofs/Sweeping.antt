@@ -13,7 +13,7 @@ use Rattle.relation.specs.Table.{words, Joins, Writes}
 use Rattle.relation.proofs.Truth.{clashing}
 use Rattle.relation.proofs.Rooms.{written}
 use Rattle.sweeps.specs.Pairs.{pairCount, PairBetween, PairIn}
-use Rattle.sweeps.specs.Passes.{Joined, Pass, At, AllTaken}
+use Rattle.sweeps.specs.Needs.{Joined, Pass, At, AllTaken}
 use Rattle.sweeps.proofs.Passes.{joined-join, joined-within, diagonal-within, closed-holds, pass-try}
 
 module _ (list : List ℕ) where

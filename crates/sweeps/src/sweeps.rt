@@ -4,7 +4,7 @@ ghost use lib.ListN.{length};
 ghost use Rattle.relation.specs.Table.{words};
 ghost use Rattle.sweeps.specs.Pairs.{pairCount, PairBetween, PairIn};
 ghost use Rattle.sweeps.specs.Promise.{PutsReach};
-ghost use Rattle.sweeps.specs.Passes.{Pass, AllTaken};
+ghost use Rattle.sweeps.specs.Needs.{Pass, AllTaken};
 use relation::diagonal;
 use relation::join;
 

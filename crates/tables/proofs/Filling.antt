@@ -9,7 +9,8 @@ use lib.Dec.{eqb}
 use lib.ListN.{length, getD, set, length-set}
 use lib.Seq.{getD-set-same, getD-set-other}
 use Rattle.tables.specs.Rows.{firstRow, threadOf, isFirst}
-use Rattle.tables.specs.Heads.{headOf, ownHead, Heads, Headed, FilledTo, Fills}
+use Rattle.tables.specs.Heads.{headOf, ownHead, Heads, Headed}
+use Rattle.tables.specs.Needs.{FilledTo, Fills}
 use Rattle.tables.proofs.Rows.{first-none, first-next, first-all, only, past-head, same-head}
 
 -- ---- a room that is filled by one store after another

@@ -1,7 +1,8 @@
 // For each row, where its thread begins.
 ghost use Prim.Native.Nat.{_≤_};
 ghost use lib.ListN.{length};
-ghost use Rattle.tables.specs.Heads.{Fills, Heads};
+ghost use Rattle.tables.specs.Heads.{Heads};
+ghost use Rattle.tables.specs.Needs.{Fills};
 ghost use Rattle.tables.specs.Promise.{AnswersIsFirst};
 use crate::threads::least;
 

@@ -15,7 +15,7 @@ use Rattle.warps.specs.Language.{Expr, literal, cell, lane, plus, minus, less, 
 use Rattle.kernels.specs.Limits.{mostExpressions}
 use Rattle.kernels.specs.Rows.{exprKind, exprX, exprY}
 use Rattle.values.specs.Expressions.{exprBy, exprAt, expression}
-use Rattle.values.specs.Parts.{valueBy, rowBy}
+use Rattle.values.specs.Needs.{valueBy, rowBy}
 
 eval-by : (k x : ℕ) (p q : Expr) (t : ℕ) (μ : Mem) → eval (exprBy k x p q) t μ ≡ valueBy k x (eval p t μ) (eval q t μ) (getD μ x 0) t
 unfolding eval

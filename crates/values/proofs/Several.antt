@@ -18,7 +18,7 @@ use Rattle.warps.specs.Language.{Mem, eval}
 use Rattle.kernels.specs.Limits.{mostExpressions}
 use Rattle.kernels.specs.Rows.{exprKind, exprX, exprY}
 use Rattle.values.specs.Expressions.{exprAt}
-use Rattle.values.specs.Parts.{valueBy, stripOf, Ahead, Strips, StripDone, CanFill, RowDone, Zeroed, Valued}
+use Rattle.values.specs.Needs.{valueBy, stripOf, Ahead, Strips, StripDone, CanFill, RowDone, Zeroed, Valued}
 use Rattle.values.proofs.Filling.{value-step, in-limit}
 
 -- ---- a row

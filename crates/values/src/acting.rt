@@ -6,7 +6,7 @@ ghost use Rattle.warps.specs.Language.{test};
 ghost use Rattle.kernels.specs.Limits.{mostExpressions};
 ghost use Rattle.values.specs.Expressions.{expression, acting};
 ghost use Rattle.values.specs.Promise.{AnswersActingLanes};
-ghost use Rattle.values.specs.Parts.{CanFill, Zeroed};
+ghost use Rattle.values.specs.Needs.{CanFill, Zeroed};
 use crate::rows::value;
 use crate::wide::fill_rows;
 use kernels::Kernel;

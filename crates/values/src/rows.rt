@@ -8,7 +8,7 @@ ghost use Rattle.relation.specs.Promise.{AnswersAt};
 ghost use Rattle.kernels.specs.Limits.{mostExpressions};
 ghost use Rattle.kernels.specs.Rows.{sumExpr};
 ghost use Rattle.values.specs.Promise.{AnswersValue};
-ghost use Rattle.values.specs.Parts.{valueBy, rowBy};
+ghost use Rattle.values.specs.Needs.{valueBy, rowBy};
 use kernels::Kernel;
 
 // Few rows have a small room, which is sooner empty.

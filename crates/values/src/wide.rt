@@ -3,7 +3,7 @@ ghost use mathlib.Core.Path.{_≡_};
 ghost use Prim.Native.Nat.{ℕ, _+_, _*_, _^_, _≤_, _<_};
 ghost use lib.ListN.{length};
 ghost use Rattle.kernels.specs.Rows.{sumExpr};
-ghost use Rattle.values.specs.Parts.{stripOf, Strips, StripDone, CanFill, RowDone, Zeroed, Valued};
+ghost use Rattle.values.specs.Needs.{stripOf, Strips, StripDone, CanFill, RowDone, Zeroed, Valued};
 use crate::rows::at;
 use crate::rows::leaf_value;
 use crate::rows::pair_value;

@@ -4,7 +4,7 @@ use mathlib.Core.Path.{sym}
 use lib.ListN.{length}
 use Rattle.relation.specs.Table.{width}
 use Rattle.relation.proofs.Rooms.{last-word, row-in}
-use Rattle.closing.specs.Rows.{RowsAre, trimmed}
+use Rattle.closing.specs.Needs.{RowsAre, trimmed}
 use Rattle.closing.proofs.Rows.{rows-none, rows-all}
 use Rattle.closing.proofs.Trimming.{no-padding, trim-more}
 use borrow.Author.Needs.{needs}

@@ -6,7 +6,7 @@ use native.Mathlib.Omega.{arith}
 use lib.ListN.{length}
 use Rattle.relation.specs.Table.{width}
 use Rattle.relation.proofs.Rooms.{place-in}
-use Rattle.closing.specs.Rows.{RowsAre, joinedIf}
+use Rattle.closing.specs.Needs.{RowsAre, joinedIf}
 use Rattle.closing.proofs.Rows.{rows-all}
 use Rattle.closing.proofs.Warshall.{round-more}
 use borrow.Author.Needs.{needs}

@@ -1,7 +1,7 @@
 -- A sheet tells whether there is a pair, and the first. Assumes nothing.
 use borrow.Author.Needs.{needs}
 use Rattle.sheet.specs.Sheet.{mostKept}
-use Rattle.findings.specs.Searches.{faultNumber}
+use Rattle.findings.specs.Needs.{faultNumber}
 use Rattle.findings.proofs.Looks.{told-none, told-first}
 use Rattle.findings.proofs.finding.first_told.Statement.{statement}
 use Rattle.findings.proofs.finding.first_told.Tie as tie

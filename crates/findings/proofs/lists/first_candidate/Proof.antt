@@ -6,7 +6,7 @@ use lib.ListN.{getD}
 use borrow.Author.Tests.{not-true, not-false}
 use Rattle.tables.specs.Limits.{mostRows}
 use Rattle.faults.specs.declared.faults.Fault.the-variants.{Reuse}
-use Rattle.findings.specs.Lists.{Next}
+use Rattle.findings.specs.Needs.{Next}
 use Rattle.findings.proofs.Listing.{candidate, candidate-none, candidate-above}
 use borrow.Author.Needs.{needs}
 use Rattle.findings.proofs.lists.first_candidate.Statement.{statement}

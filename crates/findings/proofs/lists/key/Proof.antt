@@ -5,7 +5,7 @@ use native.Mathlib.Omega.{arith}
 use Rattle.tables.specs.Limits.{mostRows}
 use Rattle.tables.specs.Rows.{name}
 use Rattle.rooms.specs.Rooms.{numberAt}
-use Rattle.findings.specs.Lists.{barrierList}
+use Rattle.findings.specs.Needs.{barrierList}
 use borrow.Author.Needs.{needs}
 use Rattle.findings.proofs.lists.key.Statement.{statement}
 use Rattle.findings.proofs.lists.key.Tie as tie

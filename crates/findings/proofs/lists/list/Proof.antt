@@ -4,7 +4,7 @@ use Prim.Native.Nat.{_+_, _-_, _≤_}
 use native.Mathlib.Omega.{arith}
 use Rattle.tables.specs.Limits.{mostRows}
 use Rattle.tables.specs.Rows.{rows}
-use Rattle.findings.specs.Lists.{Lists}
+use Rattle.findings.specs.Needs.{Lists}
 use Rattle.findings.proofs.Listing.{lists-none, lists-passed, lists-more}
 use borrow.Author.Needs.{needs}
 use Rattle.findings.proofs.lists.list.Statement.{statement}

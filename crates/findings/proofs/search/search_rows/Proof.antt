@@ -7,7 +7,7 @@ use Rattle.tables.specs.Limits.{mostRows}
 use Rattle.tables.specs.Rows.{rows}
 use Rattle.sheet.specs.Sheet.{mostKept, sheetOf}
 use Rattle.faults.specs.Faults.{pairOf, allRows}
-use Rattle.findings.specs.Searches.{faultAt}
+use Rattle.findings.specs.Needs.{faultAt}
 use Rattle.findings.proofs.Searching.{all-begun, total-few, row-empty, row-kept, row-counted}
 use borrow.Author.Needs.{needs}
 use Rattle.findings.proofs.search.search_rows.Statement.{statement}

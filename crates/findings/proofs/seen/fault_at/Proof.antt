@@ -3,7 +3,7 @@ use mathlib.Core.Path.{ap₂, _∙_}
 use Rattle.tables.specs.Limits.{mostRows}
 use Rattle.tables.specs.Rows.{rows}
 use Rattle.faults.specs.Tests.{isFault}
-use Rattle.findings.specs.Searches.{faultAt}
+use Rattle.findings.specs.Needs.{faultAt}
 use borrow.Author.Needs.{needs}
 use Rattle.findings.proofs.seen.fault_at.Statement.{statement}
 use Rattle.findings.proofs.seen.fault_at.Tie as tie

@@ -3,7 +3,7 @@ use native.Mathlib.Omega.{arith}
 use borrow.Author.Tests.{not-true, not-false}
 use Rattle.relation.proofs.Truth.{left}
 use Rattle.sweeps.specs.Pairs.{PairIn}
-use Rattle.sweeps.specs.Passes.{Joined, none}
+use Rattle.sweeps.specs.Needs.{Joined, none}
 use Rattle.sweeps.proofs.Passes.{joined-join, joined-length, still-fits, pass-join, left-to-grow, grows}
 use Rattle.sweeps.proofs.Sweeping.{settled}
 use borrow.Author.Needs.{needs}

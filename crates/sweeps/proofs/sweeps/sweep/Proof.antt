@@ -3,7 +3,7 @@ use mathlib.Core.Path.{_≡_}
 use Prim.Native.Nat.{_≤_, _-_}
 use native.Mathlib.Omega.{arith}
 use Rattle.sweeps.specs.Pairs.{PairBetween, PairIn}
-use Rattle.sweeps.specs.Passes.{Pass}
+use Rattle.sweeps.specs.Needs.{Pass}
 use Rattle.sweeps.proofs.Passes.{joined-length, still-fits, pass-none, pass-join, pass-part}
 use Rattle.sweeps.proofs.Sweeping.{between-more, pass-pair}
 use borrow.Author.Needs.{needs}

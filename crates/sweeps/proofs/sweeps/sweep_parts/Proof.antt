@@ -3,7 +3,7 @@ use Prim.Native.Nat.{_≤_, _-_}
 use native.Mathlib.Omega.{arith}
 use lib.ListN.{length}
 use Rattle.sweeps.specs.Pairs.{pairCount, PairBetween, PairIn}
-use Rattle.sweeps.specs.Passes.{Pass}
+use Rattle.sweeps.specs.Needs.{Pass}
 use Rattle.sweeps.proofs.Passes.{joined-join, joined-length, still-fits, pass-none, pass-join, pass-part}
 use Rattle.sweeps.proofs.Sweeping.{between-on}
 use borrow.Author.Needs.{needs}

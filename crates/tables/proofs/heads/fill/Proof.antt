@@ -4,7 +4,7 @@ use Prim.Native.Nat.{_-_, _≤_}
 use native.Mathlib.Omega.{arith}
 use lib.ListN.{length}
 use borrow.Author.Needs.{needs}
-use Rattle.tables.specs.Heads.{Fills}
+use Rattle.tables.specs.Needs.{Fills}
 use Rattle.tables.proofs.Filling.{fills-none, fills-more}
 use Rattle.tables.proofs.heads.fill.Statement.{statement}
 use Rattle.tables.proofs.heads.fill.Tie as tie

@@ -4,7 +4,7 @@ use Prim.Native.Nat.{ℕ, _-_, _≤_}
 use native.Mathlib.Omega.{arith}
 use borrow.Author.Needs.{needs}
 use lib.ListN.{length}
-use Rattle.values.specs.Parts.{StripDone}
+use Rattle.values.specs.Needs.{StripDone}
 use Rattle.values.proofs.Several.{strip-none, pair-more, strip-all}
 use Rattle.values.proofs.wide.fill_pair.Statement.{statement}
 use Rattle.values.proofs.wide.fill_pair.Tie as tie

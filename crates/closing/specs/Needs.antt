@@ -1,4 +1,4 @@
--- The rows of a table one after the other: how far they are done, and what a round or a cut makes of each.
+-- What the parts ask for and pass on; nothing public speaks of it.
 use mathlib.Core.Path.{_≡_}
 use mathlib.Core.Bool.{Bool, _&&_, _||_}
 use mathlib.Core.List.{List}

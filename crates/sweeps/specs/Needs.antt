@@ -1,4 +1,4 @@
--- Joins of rows along edges, one after the other in any order, and when they leave exactly what can be reached.
+-- What the parts ask for and pass on; nothing public speaks of it.
 use mathlib.Core.Path.{_≡_}
 use mathlib.Core.Bool.{Bool, true, false}
 use mathlib.Core.List.{List}

@@ -1,4 +1,4 @@
--- What a step changes: three numbers of the state, and one barrier. Each function that makes steps stores just that.
+-- What the parts ask for and pass on; nothing public speaks of it.
 use mathlib.Core.Path.{_≡_}
 use mathlib.Core.Bool.{Bool, true, false, cond}
 use mathlib.Core.List.{List}
@@ -19,6 +19,8 @@ use Rattle.barriers.specs.Counting.{counted}
 use Rattle.barriers.specs.Barrier.{registration}
 use Rattle.steps.specs.State.{ranSoFar}
 use Rattle.steps.specs.Step.{enters}
+
+-- ---- what a step changes: three numbers of the state, and one barrier; each function that makes steps stores just that
 
 -- a command that enters no barrier
 abbrev pub plainRow : Bool → ℕ → Row

@@ -1,4 +1,4 @@
--- What the parts of an evaluation ask for and leave; nothing public speaks of it.
+-- What the parts ask for and pass on; nothing public speaks of it.
 use mathlib.Core.Path.{_≡_}
 use mathlib.Core.Bool.{cond}
 use mathlib.Core.List.{List}
