@@ -1,6 +1,6 @@
 # Sourced by tests/run, after tests/command.sh: what ./review, .ci/run, bench/run and make_archives do with a toolchain that fails, in a small tree with a stand-in for rt. It does what the file `act` says,
 # and notes its calls.
-# shellcheck shell=bash disable=SC2154
+# shellcheck shell=bash disable=SC2154,SC2016
 tree="$room/a tree"
 standin=$room/standin
 mkdir -p "$standin" "$tree/crates/one"/{src,specs,proofs} "$tree"/{.ci,bench,tests,target}
@@ -15,8 +15,8 @@ echo "$*" >> "${0%/*}/called"
 . "${0%/*}/act"
 END
 chmod 755 "$standin/rt"
-built=$top/target/bin/cuckoomoss
-export built
+real_program=$top/target/bin/cuckoomoss
+export real_program
 
 # acts WORDS: from here on the stand-in does this, and has not been called.
 acts() { printf '%s\n' "$1" > "$standin/act"; : > "$standin/called"; }
@@ -36,7 +36,7 @@ age() { touch -d '1 day ago' "$1"; }
 
 # ---- ./review
 
-makes='mkdir -p target/bin; cp "$built" target/bin/cuckoomoss; chmod 755 target/bin/cuckoomoss'
+makes='mkdir -p target/bin; cp "$real_program" target/bin/cuckoomoss; chmod 755 target/bin/cuckoomoss'
 made=$tree/target/bin/cuckoomoss
 wrong() { mkdir -p "$tree/target/bin"; echo 'no program' > "$made"; chmod 755 "$made"; }
 in_tree_review() { in_tree ./review "$top/$text.txt"; }
@@ -83,7 +83,17 @@ acts 'echo the stand-in says no; exit 1'
 unbuilt 'the same once more'
 acts 'echo the stand-in says no'
 unbuilt 'a check that passes and makes no program'
+cp "$real_program" "$made"
+age "$made"
+unbuilt 'the same, and an old program is there'
 
+# rt makes no program that it has a stamp of, though it be gone.
+mkdir -p "$tree/target/stamp"
+touch "$tree/target/stamp/cuckoomoss"
+acts "[ -e target/stamp/cuckoomoss ] || { $makes; }"
+reviewed 'a program that is gone, and its stamp is there'
+
+age "$made"
 acts "$makes; sleep 0.05; touch crates/one/src/lib.rt"
 reviewed 'a source that is changed during the build'
 acts "$makes"
@@ -112,8 +122,11 @@ for last in '0 passed, 0 failed' '3 passed, 1 failed' '3 passed, 0 failed, or so
   ends "a gate whose last line is '$last'" 1 in_tree .ci/run
   if grep -q outside "$room/wrote"; then fail "after '$last' the outside tests are run"; fi
 done
-gate '3 passed, 1 failed' 1
-ends 'a gate whose proofs fail' 1 in_tree .ci/run
+for last in '3 passed, 1 failed' '3 passed, 0 failed'; do
+  gate "$last" 1
+  ends "a gate whose proofs fail with '$last'" 1 in_tree .ci/run
+  if grep -q outside "$room/wrote"; then fail 'after proofs that fail the outside tests are run'; fi
+done
 outside 'exit 1'
 gate '3 passed, 0 failed' 0
 ends 'a gate whose outside tests fail' 1 in_tree .ci/run
@@ -122,16 +135,29 @@ echo 'the gate: passes with a last line of rt that says so, and with no other'
 
 # ---- the archives
 
-archive_of='mkdir -p target/staticlib; echo "$2" > "target/staticlib/lib$2.a"'
-# make_with COMMAND: make_archives where this command fails.
-make_with() ( cd "$tree" && PATH=$standin:$PATH && . tests/tools.sh && eval "$1() { return 1; }" && { make_archives || exit 1; } )
-acts "$archive_of"
-ends 'archives that can be made' 0 make_with nothing
-[ "$(cat "$tree/target/staticlib/libprobe.a" "$tree/target/staticlib/libdesk.a")" = $'probe\ndesk' ] || fail 'make_archives does not make both archives'
-for failing in mktemp mkdir cp mv rt; do
+makes_archive='mkdir -p target/staticlib; echo "$2" > "target/staticlib/lib$2.a"'
+# make_with DEFINITION: make_archives where a command is replaced by this function, and what it answers is looked at, so that bash ends nothing by itself.
+make_with() ( cd "$tree" && PATH=$standin:$PATH && . tests/tools.sh && eval "$1" && { make_archives || exit 1; } )
+# unmade NAME DEFINITION: it fails.
+unmade() {
   rm -rf "$tree/target/staticlib"
-  ends "make_archives where $failing fails" 1 make_with "$failing"
-done
+  acts "$makes_archive"
+  ends "$1" 1 make_with "$2"
+}
+acts "$makes_archive"
+ends 'archives that can be made' 0 make_with :
+[ "$(cat "$tree/target/staticlib/libprobe.a" "$tree/target/staticlib/libdesk.a")" = $'probe\ndesk' ] || fail 'make_archives does not make both archives'
+unmade 'no folder for a copy' 'mktemp() { return 1; }'
+was_called 'no folder for a copy'
+unmade 'the folder in the copy cannot be made' 'mkdir() { [ "$2" = target/staticlib ] && command mkdir "$@"; }'
+mkdir -p "$tree/target/rlib" "$tree/target/stamp"
+unmade 'the sources cannot be copied' 'cp() { [ "$2" != crates ] && command cp "$@"; }'
+unmade 'what was proved cannot be copied' 'cp() { [ "$2" != target/rlib ] && command cp "$@"; }'
+unmade 'the archive of desk does not pass' 'rt() { [ "$2" != desk ] && command rt "$@"; }'
+unmade 'the archive of probe does not pass' 'rt() { [ "$2" != probe ] && command rt "$@"; }'
+unmade 'the folder for the archive cannot be made' 'mkdir() { [ "$2" != target/staticlib ] && command mkdir "$@"; }'
+unmade 'the archive of probe cannot be copied' 'cp() { [ "$1" = -a ] && command cp "$@"; }'
+unmade 'the archive of probe does not get its name' 'mv() { return 1; }'
 echo 'the archives: whatever fails while they are made is told'
 
 # An archive that is older than a source is made anew, and where that fails nothing is timed.
