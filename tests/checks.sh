@@ -1,5 +1,5 @@
 # Sourced by tests/run at the top of the repository, after tests/tools.sh: how a test is told, counted and skipped. What a test leaves stands in $room.
-# shellcheck shell=bash disable=SC2154
+# shellcheck shell=bash disable=SC2154,SC2119,SC2120
 passed=0
 skipped=()
 

@@ -126,10 +126,14 @@ refused 'no standard input' 2 from_nothing
 refused 'no standard input with --evidence' 2 from_nothing --evidence
 refused 'no standard output' 1 to_nothing "$text.txt"
 if [ -c /dev/full ]; then
-  to_full() { review "$@" > /dev/full; }
-  refused 'a full disk' 1 to_full "$text.txt"
-  refused 'a full disk with --evidence' 1 to_full --evidence "$text.txt"
+  to_full() { "$@" > /dev/full; }
+  refused 'a full disk' 1 to_full review "$text.txt"
+  refused 'a full disk with --evidence' 1 to_full review --evidence "$text.txt"
+  refused 'the program by itself on a full disk' 0 to_full program < "$text.txt"
 else
-  skip './review on a full disk, as there is no /dev/full'
+  skip 'a full disk, as there is no /dev/full'
 fi
+# Its status is always 0: that there is no report ./review sees by the empty output.
+refused 'the program by itself with an unknown option' 0 program --wrong < "$text.txt"
+refused 'the program by itself and an error of reading' 0 program < "$room"
 echo './review: what cannot be read or written is told in one line, with a status that is not 0'

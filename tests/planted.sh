@@ -1,6 +1,6 @@
 # Sourced by tests/run: the programs that compare, each with one fault planted, must report a difference. So every gate shows that they can. A fault in the reference stands for the same rule broken in the
 # archive; one beside a call of the archive, in the program itself, for an archive that writes something else there.
-# shellcheck shell=bash disable=SC2154
+# shellcheck shell=bash disable=SC2154,SC2086
 planted=$room/planted
 mkdir "$planted"
 

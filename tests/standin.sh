@@ -3,7 +3,7 @@
 # shellcheck shell=bash disable=SC2154,SC2016
 tree="$room/a tree"
 standin=$room/standin
-mkdir -p "$standin" "$tree/crates/one"/{src,specs,proofs} "$tree"/{.ci,bench,tests,target}
+mkdir -p "$standin" "$tree/crates/one"/{src,specs,proofs} "$tree"/{.ci,bench,tests}
 cp review "$tree"
 cp .ci/run "$tree/.ci"
 cp bench/run "$tree/bench"
@@ -54,8 +54,6 @@ unbuilt() {
   [ "$(tail -n 1 "$room/said")" = 'review: the program could not be built' ] || fail "$1: the last line does not say that the program could not be built"
 }
 
-age "$tree/crates/one/src"
-age "$tree/crates.txt"
 acts "$makes"
 reviewed 'a first call'
 was_called 'a first call' 'check cuckoomoss'
