@@ -40,7 +40,7 @@ plant_all() {
   faults=0
   for name in "${!parts[@]}"; do
     link "$name" || fail "tests/$name.c does not build"
-    ends "tests/$name.c without a fault" 0 run_c "$planted/$name" 1 100 0
+    ends "tests/$name.c without a fault" 0 run_c "$planted/$name" 1 300 0
   done
   plant compare reference 'generations are counted from 0' 's/= barrier->completed + 1;/= barrier->completed;/'
   plant compare reference 'an arrive reaches an arrive' 's/tables->commands\[3 \* j\] == SYNC/is_barrier_command(tables, j)/'
