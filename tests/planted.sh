@@ -13,8 +13,8 @@ compile_parts() {
   for part in $(printf '%s\n' ${parts[compare]} ${parts[files]} ${parts[warps]} | sort -u); do compile "tests/$part.c" "$planted/$part.o" || return 1; done
 }
 
-# link NAME [PART]: the program of that name, with the faulty object in place of that part.
-link() {
+# link_parts NAME [PART]: the program of that name, with the faulty object in place of that part.
+link_parts() {
   local part objects=()
   for part in ${parts[$1]}; do
     if [ "$part" = "${2:-}" ]; then objects+=("$planted/faulty.o"); else objects+=("$planted/$part.o"); fi
@@ -28,7 +28,7 @@ plant() {
   sed "$4" "tests/$2.c" > "$planted/$2.c"
   [ "$(diff "tests/$2.c" "$planted/$2.c" | grep -c '^>')" -eq 1 ] || fail "$what: the edit does not change one line"
   compile "$planted/$2.c" "$planted/faulty.o" || fail "$what: it does not build"
-  link "$1" "$2" || fail "$what: it does not build"
+  link_parts "$1" "$2" || fail "$what: it does not build"
   ends "$what" 1 run_c "$planted/$1" 1 2000 0
   says "$what" '  to repeat: '
   faults=$((faults + 1))
@@ -39,7 +39,7 @@ plant_all() {
   local name
   faults=0
   for name in "${!parts[@]}"; do
-    link "$name" || fail "tests/$name.c does not build"
+    link_parts "$name" || fail "tests/$name.c does not build"
     ends "tests/$name.c without a fault" 0 run_c "$planted/$name" 1 300 0
   done
   plant compare reference 'generations are counted from 0' 's/= barrier->completed + 1;/= barrier->completed;/'

@@ -128,7 +128,7 @@ static void texts_at_the_limits(void)
     full_table("sync 0 1;");                 /* 10 */
     full_table("read 0; sync 15 63;");       /* 13: over 512 commands */
     full_table("arrive 0 63;");              /* 9 */
-    full_table("sync 0 63;");                /* 8 or another end */
+    full_table("sync 0 63;");                /* 8 */
     full_table("sync %d 64;");               /* 3 */
     memset(text, ' ', TEXT);                 /* 12, at the longest text's end */
     length = TEXT;
