@@ -50,9 +50,8 @@ extern "C" {
  * to either during the call. Neither pointer may be null, not even with length 0: pass the address of any byte then.
  *
  * It keeps nothing between calls: the archive has no variables, so calls from several threads at once, each with its own report room, do not
- * meet. It takes no heap, opens nothing and prints nothing. It works on the stack: about 92,000 bytes were measured below the caller's frame for every
- * text that was judged, and at least 9,000 less for refused ones. Nothing proves that figure, and another build may have another:
- * leave it 128 KiB.
+ * meet. It takes no heap, opens nothing and prints nothing. It works on the stack and takes at most 92000 bytes of stack below the caller's frame. That figure is measured, not
+ * proved: the outside tests hold every build to it over texts at every limit and with every verdict (tests/stack.c). Leave it 128 KiB.
  */
 uint32_t review_text(const uint8_t *text, size_t text_len, uint8_t *report, size_t report_len);
 
@@ -76,7 +75,7 @@ uint32_t review_text(const uint8_t *text, size_t text_len, uint8_t *report, size
  * What is printed is plain ASCII as above, each line closed by one newline, and has at most 51392 bytes: 192 for the report, and 1600 for each of at most
  * 32 schedules with its line. Bytes of `report` after it keep what they held. 14 is answered, and `report` is untouched, if `report_len` is under 51392, whatever the text.
  *
- * All else is as for review_text, but that about 98,000 bytes of stack were measured: leave it 128 KiB too.
+ * All else is as for review_text, but that it takes at most 98000 bytes of stack, measured in the same way: leave it 128 KiB too.
  */
 uint32_t review_text_evidence(const uint8_t *text, size_t text_len, uint8_t *report, size_t report_len);
 

@@ -84,7 +84,7 @@ uint32_t probe_close(uint32_t *relation, size_t relation_len, uint32_t rows);
  *   steps        how many steps it may take
  *   answer       0: the refusal's place, which is the first statement refused, 0 if none; 1: 0; 2: how it ended, 0 refused, 1 finished, 2 the steps are used up, 3 the next step would overfill the
  *                stack of 256 statements and tokens, tested in this order; 3: 0; 4 and 5: how many steps were taken, low and high word
- * It takes no heap. About 43,000 bytes of the caller's stack were measured: leave it 64 KiB.
+ * It takes no heap, and at most 43000 bytes of stack below the caller's frame, which is measured (tests/stack.c) and not proved: leave it 64 KiB.
  */
 uint32_t probe_warp(const uint32_t *statements, size_t statements_len, const uint32_t *expressions, size_t expressions_len, uint32_t lanes,
                     uint32_t *cells, size_t cells_len, uint64_t steps, uint32_t *answer, size_t answer_len);
