@@ -1,1 +1,2 @@
 pub mod Brought
+pub mod Printing

@@ -1,6 +1,6 @@
 // Reads one text from standard input and prints its report, with evidence where `--evidence` asks for it. An error of reading or writing is told on standard error, and is
 // never taken for an end.
-ghost use Rattle.io.specs.Counts.{Counts};
+ghost use Rattle.cuckoomoss.specs.Printed.{AnswersBeforeZero};
 use asked::Wanted;
 use asked::asked;
 use desk::Report;
@@ -16,7 +16,7 @@ mod input; // a text from a descriptor
 
 // How many bytes stand before the first zero. The report room begins as zeros and a report has none, nor has evidence, so that is where the report ends.
 fn before_zero(room: &[u8]) -> usize
-    ensures { λ r. ⌜ Counts r (now (room .entry)) ⌝ }
+    ensures { λ r. ⌜ AnswersBeforeZero (now (room .entry)) r ⌝ }
 {
     let mut i = 0;
     while i < room.len() {

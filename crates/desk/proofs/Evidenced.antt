@@ -48,9 +48,9 @@ use Rattle.desk.specs.declared.conclusion.Concluded.{Concluded}
 use Rattle.desk.specs.Conclusion.{toldOf, ofTables, readAs, ofText, bare}
 use Rattle.report.specs.Report.{report}
 use Rattle.desk.specs.Promise.{leastRoom}
-use Rattle.desk.specs.Rooms.{FilledRooms, Concludes}
+use Rattle.desk.specs.Needs.{FilledRooms, Concludes}
 use Rattle.desk.specs.Evidence.{leastEvidence, commandsOf, lengthsOf, offered, generationsOf, reachesOf, textExhibits, Against, BothOrders, TextEvidenced}
-use Rattle.desk.proofs.Demands.{taken, read-told, tables-told, text-judged, text-possible}
+use Rattle.desk.proofs.Demands.{taken, read-told, tables-told, text-judged}
 use Rattle.desk.proofs.Reports.{text-short, longest-fits}
 
 -- ---- two tables that are told 10 or 11 by the writer's schedule
@@ -232,15 +232,14 @@ module _ {text relation generations : List ℕ} {r : Concluded} {commands′ len
       → PutsBytes room₁ room₂ at (exhibited (take (r .numbers) commands′) (take (r .threads) lengths′) generations′ relation′ (r .conclusion .told .number) (r .conclusion .sheet)) next
       → TextEvidenced text room room₂ (r .conclusion .told .number)
   evidenced-text {room} h p q =
+      let told-is : r .conclusion .told .number ≡ ofText text .told .number = ap (λ (k : Conclusion). k .told .number) (C .concludes) in
       record {
         refuses = λ g. absurd (omega arith);
-        answers = λ _. ap (λ (k : Conclusion). k .told .number) (C .concludes);
+        answers = λ _. told-is;
         prints = λ _. puts-over (puts-on (rw (C .concludes) at p) (rw exhibits-are at q)) (omega (arith, all-fits text));
-        fits = all-fits text;
-        possible = text-possible text;
-        demand₃ = λ _. rw (ap (λ (k : Conclusion). k .told .number) (C .concludes)) (text-judged text);
-        reuse = ten-so text;
-        races = eleven-so text;
+        demand₃ = λ _. rw told-is (text-judged text);
+        reuse = λ e. ten-so text (sym told-is ∙ e);
+        races = λ e. eleven-so text (sym told-is ∙ e);
       }
 
 module _ (text room : List ℕ) where
@@ -250,11 +249,9 @@ module _ (text room : List ℕ) where
         refuses = λ _. (refl, refl);
         answers = λ g. absurd (omega arith);
         prints = λ g. absurd (omega arith);
-        fits = all-fits text;
-        possible = text-possible text;
         demand₃ = λ g. absurd (omega arith);
-        reuse = ten-so text;
-        races = eleven-so text;
+        reuse = λ e. absurd (omega (arith, e));
+        races = λ e. absurd (omega (arith, e));
       }
 
 -- no other answer, and no other bytes

@@ -27,7 +27,7 @@ use Rattle.desk.specs.Conclusion.{bare, toldOf, pairsOf, ofTables, readA
 use Rattle.report.specs.Report.{report}
 use Rattle.desk.specs.Promise.{leastRoom, TextReviewed}
 use Rattle.report.proofs.Fits.{Short, longest, report-short}
-use Rattle.desk.proofs.Demands.{taken, read-told, text-judged, text-possible}
+use Rattle.desk.proofs.Demands.{taken, read-told, text-judged}
 
 -- small numbers
 record Few (c : Conclusion) : Type 0 where
@@ -101,7 +101,7 @@ pub longest-fits : longest ≤ leastRoom
 unfolding longest leastRoom
 longest-fits = omega arith
 
-text-fits : (text : List ℕ) → length (report (ofText text)) ≤ leastRoom
+pub text-fits : (text : List ℕ) → length (report (ofText text)) ≤ leastRoom
 text-fits text = omega (arith, text-short text, longest-fits)
 
 -- what `review_text` has found at its two returns
@@ -112,8 +112,6 @@ module _ (text room : List ℕ) where
         refuses = λ _. (refl, refl);
         answers = λ h. absurd (omega arith);
         prints = λ h. absurd (omega arith);
-        fits = text-fits text;
-        possible = text-possible text;
         demand₃ = λ h. absurd (omega arith);
       }
 
@@ -125,8 +123,6 @@ module _ (text room : List ℕ) where
         refuses = λ h. absurd (omega arith);
         answers = λ _. n;
         prints = λ _. puts-over (rw e at p) (omega (arith, text-fits text));
-        fits = text-fits text;
-        possible = text-possible text;
         demand₃ = λ _. rw n (text-judged text);
       }
 

@@ -32,7 +32,7 @@ use Rattle.sheet.specs.Sheet.{sheetOf}
 use Rattle.review.proofs.Bounds.{refused-checked}
 use Rattle.report.specs.declared.Conclusion.{Conclusion}
 use Rattle.desk.specs.Conclusion.{toldOf, pairsOf, ofTables, bare}
-use Rattle.desk.specs.Rooms.{FilledRooms, JudgesTables}
+use Rattle.desk.specs.Needs.{FilledRooms, JudgesTables}
 use Rattle.review.proofs.Telling.{verdict-is, sheet-is}
 
 -- rooms of zeros are full ones

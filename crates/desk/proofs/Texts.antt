@@ -24,7 +24,7 @@ use Rattle.sheet.specs.declared.Sheet.{Sheet}
 use Rattle.sheet.specs.Sheet.{sheetOf}
 use Rattle.report.specs.declared.Conclusion.{Conclusion}
 use Rattle.desk.specs.Conclusion.{ofTables, readAs, ofText, bare}
-use Rattle.desk.specs.Rooms.{FilledRooms, JudgesTables, Concludes}
+use Rattle.desk.specs.Needs.{FilledRooms, JudgesTables, Concludes}
 
 not-accepted : (r : Reading) → OneOf (0 ∷ 1 ∷ []) (Declared.tagOf R.the-type r) → answered r .told .number ≢ 0
 not-accepted (Unfit p) h = λ e. omega arith

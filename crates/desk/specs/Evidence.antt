@@ -59,9 +59,6 @@ pub record TextEvidenced (text room room′ : List ℕ) (n : ℕ) : Type 0 where
   -- else the verdict number alone, and the report with the exhibits after it: all of them hang on the text alone; bytes after those are kept
   pub answers : leastEvidence ≤ length room → n ≡ ofText text .told .number
   pub prints : leastEvidence ≤ length room → room′ ≡ over (report (ofText text) ++ textExhibits text) room
-  -- they always have room
-  pub fits : length (report (ofText text) ++ textExhibits text) ≤ leastEvidence
-  pub possible : Possible text (ofText text .told)
   pub demand₃ : leastEvidence ≤ length room → JudgesText text n
-  pub reuse : ofText text .told .number ≡ 10 → Against text
-  pub races : ofText text .told .number ≡ 11 → (k : ℕ) → k < length (keptPairs (ofText text .sheet)) → BothOrders text (getD (keptPairs (ofText text .sheet)) k (pair 0 0))
+  pub reuse : n ≡ 10 → Against text
+  pub races : n ≡ 11 → (k : ℕ) → k < length (keptPairs (ofText text .sheet)) → BothOrders text (getD (keptPairs (ofText text .sheet)) k (pair 0 0))

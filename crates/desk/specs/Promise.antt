@@ -60,7 +60,4 @@ pub record TextReviewed (text room room′ : List ℕ) (n : ℕ) : Type 0 where
   -- else the verdict number alone, and the report: both hang on the text alone (OneReport says more); bytes after the report are kept
   pub answers : leastRoom ≤ length room → n ≡ ofText text .told .number
   pub prints : leastRoom ≤ length room → room′ ≡ over (report (ofText text)) room
-  -- any report has room
-  pub fits : length (report (ofText text)) ≤ leastRoom
-  pub possible : Possible text (ofText text .told)
   pub demand₃ : leastRoom ≤ length room → JudgesText text n

@@ -1,5 +1,5 @@
 // What the review of a text tells: the text read, a schedule written, and that judged.
-ghost use Rattle.desk.specs.Rooms.{FullRooms, FullTables, JudgesTables, Concludes};
+ghost use Rattle.desk.specs.Needs.{FullRooms, FullTables, JudgesTables, Concludes};
 use notation::Reading;
 use notation::read;
 use replay::write_schedule;

@@ -13,7 +13,7 @@ use Rattle.sheet.specs.declared.Sheet.{Sheet}
 use Rattle.sheet.specs.Sheet.{mostKept, firstKept}
 use Rattle.steps.specs.Writing.{FilledBy}
 use Rattle.evidence.specs.Evidence.{bothWays, against, evidenceOf}
-use Rattle.evidence.specs.Parts.{PutsAt, FitsAt, FitsAll, Showable}
+use Rattle.evidence.specs.Needs.{PutsAt, FitsAt, FitsAll, Showable}
 
 -- what is put from the front fills
 puts-fills : {σ room room′ : List ℕ} {r : ℕ} → PutsAt σ room room′ 0 r → FilledBy σ room room′ r

@@ -21,7 +21,7 @@ use Rattle.replay.specs.Doors.{WritesBy}
 use Rattle.replay.proofs.Refusals.{keeps-written}
 use Rattle.replay.proofs.Places.{schedule-by-few}
 use Rattle.evidence.specs.Evidence.{bothWays, firstFirst, secondFirst}
-use Rattle.evidence.specs.Parts.{PutsAt, FitsAt, FitsAll}
+use Rattle.evidence.specs.Needs.{PutsAt, FitsAt, FitsAll}
 
 -- ---- one schedule, from a place on
 

@@ -27,7 +27,7 @@ use Rattle.rooms.proofs.Refusals.{Admitted, admitted}
 use Rattle.review.specs.Judge.{generationsBy, reaches, verdictOf}
 use Rattle.review.specs.Agreement.{number, Reviewed}
 use Rattle.evidence.specs.Evidence.{Disputes, HasBefore, against, firstFirst, secondFirst, evidenceOf}
-use Rattle.evidence.specs.Parts.{Showable}
+use Rattle.evidence.specs.Needs.{Showable}
 use Rattle.evidence.specs.Evidence.{evidenceRoom}
 use Rattle.evidence.proofs.Verdicts.{Gives, ten-commands, ten-disputes, eleven-commands, eleven-orders, eleven-long}
 use Rattle.evidence.proofs.Slices.{evidence-alike, nothing-of}

@@ -1,5 +1,5 @@
 -- Read in this order: Evidence (what evidence is, over the replay's definitions, and which schedules are written); Doors (what a review with
--- evidence promises). By itself: Parts (what the writing asks for, and leaves).
+-- evidence promises). By itself: Needs (what the writing asks for, and leaves).
 pub mod Evidence
-pub mod Parts
 pub mod Doors
+pub mod Needs

@@ -1,7 +1,7 @@
 // A review with evidence.
 ghost use mathlib.Core.Path.{_≡_};
 ghost use Rattle.steps.specs.Writing.{FilledBy};
-ghost use Rattle.evidence.specs.Parts.{evidenceIn, Showable};
+ghost use Rattle.evidence.specs.Needs.{evidenceIn, Showable};
 ghost use Rattle.review.specs.Agreement.{Reviewed};
 ghost use Rattle.verdicts.specs.Verdicts.{numbered};
 ghost use Rattle.evidence.specs.Doors.{evidenceRefusal, HoldsEvidence, Admissible, Evidenced};

@@ -1,6 +1,6 @@
 // Schedules into a room, one after the other.
 ghost use lib.ListN.{take};
-ghost use Rattle.evidence.specs.Parts.{apartIn, bothWaysIn, PutsAt, FitsAt, FitsAll};
+ghost use Rattle.evidence.specs.Needs.{apartIn, bothWaysIn, PutsAt, FitsAt, FitsAll};
 use replay::write_apart;
 use sheet::Pair;
 use sheet::Sheet;

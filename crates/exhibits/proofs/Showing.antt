@@ -14,7 +14,8 @@ use Rattle.replay.specs.Doors.{Replays}
 use Rattle.tables.proofs.Scans.{Scanned, scan-found, scan-end}
 use Rattle.wording.specs.declared.Shown.the-variants.{Generation, Mismatch, Deadlock, LeftSet}
 use Rattle.exhibits.specs.declared.shown.End.{End}
-use Rattle.exhibits.specs.Shown.{differs, generationOf, otherGeneration, shownBy, Ended}
+use Rattle.exhibits.specs.Shown.{differs, generationOf, otherGeneration, shownBy}
+use Rattle.exhibits.specs.Needs.{Ended}
 
 -- ---- the judge's answer
 

@@ -52,15 +52,3 @@ Says commands lengths g τ (Generation c h k) = (c < rows commands) × (generati
 Says commands lengths g τ (Mismatch c) = (judged lengths (played commands lengths τ) .number ≡ 7) × (judged lengths (played commands lengths τ) .place ≡ c)
 Says commands lengths g τ (Deadlock c) = (judged lengths (played commands lengths τ) .number ≡ 8) × (judged lengths (played commands lengths τ) .place ≡ c)
 Says commands lengths g τ (LeftSet b) = (judged lengths (played commands lengths τ) .number ≡ 9) × (judged lengths (played commands lengths τ) .place ≡ b)
-
--- ---- what the parts ask for, and answer
-
--- tables that pass, with a generation for each command
-pub record Offered (commands lengths generations : List ℕ) : Type 0 where
-  pub keeps : Keeps commands lengths
-  pub fit : rows commands ≤ length generations
-
--- how a schedule ended, by the number of its verdict
-pub record Ended (commands lengths σ : List ℕ) (e : End) : Type 0 where
-  pub told : e .told ≡ judged lengths (played commands lengths σ)
-  pub generations : e .generations ≡ played commands lengths σ .generations

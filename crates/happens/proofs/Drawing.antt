@@ -25,8 +25,8 @@ use Rattle.programs.specs.Program.{program}
 use Rattle.rooms.specs.Rooms.{numberAt}
 use Rattle.sweeps.specs.Pairs.{pairCount, PairBetween, PairIn}
 use Rattle.happens.specs.HappensBefore.{Reached}
-use Rattle.happens.specs.Leaders.{meetsRow, leader, Seated}
-use Rattle.happens.specs.Draws.{follows, Draws, next, to, from, DrawsBelow, Adds, OnePair}
+use Rattle.happens.specs.Needs.{meetsRow, leader, Seated}
+use Rattle.happens.specs.Needs.{follows, Draws, next, to, from, DrawsBelow, Adds, OnePair}
 use Rattle.happens.proofs.Leading.{Meeting, meets-parts, parts-meet, meets-itself, meets-on, meets-beside, sync-led, same-leader}
 
 -- ---- pairs are added

@@ -13,7 +13,7 @@ use Rattle.tables.specs.Rows.{rows, kind, name, arrive, sync, registers, syncs}
 use Rattle.relation.proofs.Truth.{split, clashing, same-test, both, pair}
 use Rattle.rooms.specs.Rooms.{numberAt}
 use Rattle.happens.specs.HappensBefore.{meets}
-use Rattle.happens.specs.Leaders.{meetsRow, lastBelow, orLast, seat, sits, Seated, leader}
+use Rattle.happens.specs.Needs.{meetsRow, lastBelow, orLast, seat, sits, Seated, leader}
 
 -- ---- the last number below n that a test finds
 

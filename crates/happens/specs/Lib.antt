@@ -1,6 +1,4 @@
--- Read in this order: Order (happens-before over offered generations); PutsHappensBefore (what `put_happens_before` promises). By themselves: Leaders and Draws (which edges are
--- listed; nothing public speaks of it).
+-- Read in this order: HappensBefore (over offered generations); Promise (what `put_happens_before` promises). By itself: Needs (which edges are listed; nothing public speaks of it).
 pub mod HappensBefore
 pub mod Promise
-pub mod Leaders
-pub mod Draws
+pub mod Needs

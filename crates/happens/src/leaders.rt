@@ -5,7 +5,7 @@ ghost use lib.ListN.{length};
 ghost use Rattle.tables.specs.Limits.{mostRows};
 ghost use Rattle.tables.specs.Rows.{rows};
 ghost use Rattle.rooms.specs.Needs.{OneCommand};
-ghost use Rattle.happens.specs.Leaders.{seats, seat, lastMet, Seated, leader};
+ghost use Rattle.happens.specs.Needs.{seats, seat, lastMet, Seated, leader};
 use crate::edges::meets_row;
 use tables::Table;
 

@@ -6,7 +6,7 @@ ghost use lib.ListN.{length};
 ghost use Rattle.tables.specs.Limits.{mostRows};
 ghost use Rattle.tables.specs.Rows.{rows};
 ghost use Rattle.rooms.specs.Needs.{OneCommand};
-ghost use Rattle.happens.specs.Draws.{Draws, DrawsBelow, Adds, OnePair};
+ghost use Rattle.happens.specs.Needs.{Draws, DrawsBelow, Adds, OnePair};
 use crate::edges::follows;
 use crate::edges::meets_row;
 use crate::leaders::SEATS;

@@ -22,7 +22,8 @@ use Rattle.notation.specs.declared.scan.Scanned.{Scanned}
 use Rattle.notation.specs.declared.scan.Scanned.the-variants.{Refused, Passed}
 use Rattle.grammar.specs.Tokens.{tokenAt}
 use Rattle.grammar.specs.Automaton.{tokenMoves, mayEnd, move}
-use Rattle.notation.specs.Reading.{readOf, rowNumbers, threadLengths, scannedBy, scannedOf, Rooms}
+use Rattle.notation.specs.Reading.{readOf, rowNumbers, threadLengths, scannedBy, scannedOf}
+use Rattle.notation.specs.Needs.{Rooms}
 use Rattle.notation.proofs.Along.{startsFrom, foundFrom, met-end, met-token, found-end, found-token, judged-further}
 
 -- the judgement of m commands and t threads before the places, and of what is found at them

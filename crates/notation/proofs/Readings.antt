@@ -24,7 +24,8 @@ use Rattle.notation.specs.declared.reading.Reading.the-variants.{Unfit, 
 use Rattle.grammar.specs.Grammar as G
 use Rattle.grammar.specs.Grammar.{Listing, Denotes, Spells, rowOf, allCommands, threads, listingRows, listingLengths}
 use Rattle.grammar.specs.Automaton.{nextMove, mayEnd}
-use Rattle.notation.specs.Reading.{mostBytes, readOf, rowNumbers, threadLengths, scannedBy, scannedOf, answered, tooMany, answerOf, reading, written, Rooms}
+use Rattle.notation.specs.Reading.{mostBytes, readOf, rowNumbers, threadLengths, scannedBy, scannedOf, answered, tooMany, answerOf, reading, written}
+use Rattle.notation.specs.Needs.{Rooms}
 use Rattle.grammar.specs.Tokens.{starts, sizeOf}
 use Rattle.notation.specs.Promise.{Within, GivesTables, RefusedAt, ByGrammar, Read}
 use Rattle.grammar.proofs.Lexes.{pos, most}

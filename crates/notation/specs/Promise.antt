@@ -4,6 +4,8 @@ use mathlib.Core.Logic.{_⊎_}
 use mathlib.Core.List.{List}
 use Prim.Native.Nat.{ℕ, _*_, _≤_, _<_}
 use lib.ListN.{length}
+use denote.Ref.{RefT, now}
+use Rattle.verdicts.specs.declared.Told.{Told}
 use Rattle.tables.specs.Limits.{mostRows, mostThreads}
 use Rattle.spelling.specs.Machine.{flat}
 use Rattle.spelling.specs.Refusal as R
@@ -12,7 +14,8 @@ use Rattle.notation.specs.declared.reading.Reading.{Reading}
 use Rattle.notation.specs.declared.reading.Reading.the-variants.{Unfit, Over, Accepted}
 use Rattle.grammar.specs.Grammar.{Listing, Denotes, Spells, Whole, allCommands, threads, listingRows, listingLengths}
 use Rattle.grammar.specs.Tokens.{tokens, starts}
-use Rattle.notation.specs.Reading.{mostBytes, rowNumbers, threadLengths, answered, reading, written}
+use Rattle.reader.specs.Places.{ahead}
+use Rattle.notation.specs.Reading.{mostBytes, rowNumbers, threadLengths, answered, reading, written, restAt, restOf}
 
 -- a listing within the limits of a reading
 pub record Within (text : List ℕ) (c l : ℕ) (x : Listing) : Type 0 where
@@ -54,3 +57,11 @@ pub record Read (text commands lengths commands′ lengths′ : List ℕ) (r : R
   pub rows-hold : commands′ ≡ written r (rowNumbers text) commands
   pub lengths-hold : lengths′ ≡ written r (threadLengths text) lengths
   pub by-grammar : ByGrammar text commands lengths commands′ lengths′ r
+
+-- `Reading::told`: a refusal's number and place, or 0
+abbrev pub AnswersReadingTold : (reading : Reading) (r : Told) → Type 0
+AnswersReadingTold reading r = r ≡ answered reading .told
+
+-- `rest`: the rest of the text, where it stands in memory
+abbrev pub AnswersRestOf : (text : RefT (List ℕ)) (reading : Reading) (r : RefT (List ℕ)) → Type 0
+AnswersRestOf text reading r = (now r ≡ restOf reading (now text)) × (r .ptr ≡ ahead (text .ptr) (restAt reading (length (now text))))

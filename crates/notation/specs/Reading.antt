@@ -81,10 +81,3 @@ restAt (Accepted m t) n = n
 
 abbrev pub restOf : Reading → List ℕ → List ℕ
 restOf r text = drop (restAt r (length text)) text
-
--- what the writing pass asks: few rows and threads, and rooms that hold them
-pub record Rooms (text commands lengths : List ℕ) : Type 0 where
-  pub few-rows : length (readOf text .rows) ≤ mostRows
-  pub few-threads : length (threadLengths text) ≤ mostThreads
-  pub rows : length (rowNumbers text) ≤ length commands
-  pub lens : length (threadLengths text) ≤ length lengths

@@ -1,9 +1,7 @@
 // A text read into the two tables: refusals 12 and 13, the tables written, and the rest of a refused text.
 ghost use mathlib.Core.Path.{_≡_};
-ghost use lib.ListN.{length};
-ghost use Rattle.reader.specs.Places.{ahead};
-ghost use Rattle.notation.specs.Reading.{answered, tooMany, restAt, restOf};
-ghost use Rattle.notation.specs.Promise.{Read};
+ghost use Rattle.notation.specs.Reading.{tooMany};
+ghost use Rattle.notation.specs.Promise.{Read, AnswersReadingTold, AnswersRestOf};
 use crate::scan::Scanned;
 use crate::scan::scan;
 use crate::scan::write;
@@ -28,7 +26,7 @@ pub enum Reading {
 impl Reading {
     // A refusal's number and place; 0 where the text was accepted.
     pub fn told(self) -> Told
-        ensures { λ r. ⌜ r ≡ answered self .told ⌝ }
+        ensures { λ r. ⌜ AnswersReadingTold self r ⌝ }
     {
         match self {
             Reading::Unfit(place) => Told {
@@ -78,7 +76,7 @@ pub fn read(text: &[u8], commands: &mut [u32], lengths: &mut [u32]) -> Reading
 
 // The rest of a text that was read: from the offending token on, else its empty end.
 pub fn rest(text: &[u8], reading: Reading) -> &[u8]
-    ensures { λ s. ⌜ (now s ≡ restOf reading (now (text .entry))) × (s .ptr ≡ ahead (text .entry .ptr) (restAt reading (length (now (text .entry))))) ⌝ }
+    ensures { λ s. ⌜ AnswersRestOf (text .entry) reading s ⌝ }
 {
     match reading {
         Reading::Unfit(place) => rest_from(text, place),

@@ -29,7 +29,8 @@ use Rattle.kernels.specs.Limits.{mostStatements}
 use Rattle.runs.specs.declared.Course.{Course}
 use Rattle.runs.specs.Run.{RunsKernel}
 use Rattle.runs.proofs.Places.{place-few}
-use Rattle.probe.specs.Numbers.{largest, Counted, PairsCounted}
+use Rattle.probe.specs.Numbers.{largest}
+use Rattle.probe.specs.Needs.{Counted, PairsCounted}
 use Rattle.evidence.specs.declared.door.Evidence.{Evidence}
 use Rattle.evidence.specs.Doors.{Evidenced}
 use Rattle.evidence.proofs.Bounds.{evidence-small, evidence-sheet, entries-few}

@@ -50,17 +50,3 @@ readingNumbers r n = toldNumbers (answered r .told) (answered r .commands) (answ
 -- Those of a warp's run: its place, how it ended, and then the steps taken, the low half and the high half.
 abbrev pub warpNumbers : Course → List ℕ
 warpNumbers r = toldNumbers (tell (r .number) (r .place) 0) (r .ending) 0 ++ r .taken % 2 ^ 32 ∷ r .taken / 2 ^ 32 ∷ []
-
--- ---- what the parts ask for
-
--- each of the four numbers is one that a place holds
-pub record Counted (t : Told) (a b : ℕ) : Type 0 where
-  pub place : t .place ≤ largest
-  pub also : t .also ≤ largest
-  pub third : a ≤ largest
-  pub fourth : b ≤ largest
-
--- and so is each number of a sheet's pairs
-pub record PairsCounted (ps : List Pair) : Type 0 where
-  pub many : length ps ≡ mostKept
-  pub each : (k : ℕ) → k < mostKept → (getD ps k (pair 0 0) .first ≤ largest) × (getD ps k (pair 0 0) .second ≤ largest)

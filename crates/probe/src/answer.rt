@@ -4,7 +4,8 @@ ghost use mathlib.Core.List.{_++_};
 ghost use Prim.Native.Nat.{_≤_, min};
 ghost use lib.ListN.{length, take};
 ghost use Rattle.spelling.specs.Over.{over};
-ghost use Rattle.probe.specs.Numbers.{answerRoom, largest, toldNumbers, pairNumbers, Counted, PairsCounted};
+ghost use Rattle.probe.specs.Numbers.{answerRoom, largest, toldNumbers, pairNumbers};
+ghost use Rattle.probe.specs.Needs.{Counted, PairsCounted};
 use sheet::Sheet;
 use verdicts::Told;
 

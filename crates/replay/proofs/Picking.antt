@@ -23,7 +23,8 @@ use Rattle.steps.specs.Step.{allowed, command, stepped}
 use Rattle.steps.specs.Ending.{lowestAllowed}
 use Rattle.steps.specs.Writing.{stepping, picked, pickedFirst}
 use Rattle.steps.proofs.Changing.{may}
-use Rattle.replay.specs.Writer.{scheduleBy, apartFrom, apartSchedule, PutsApart}
+use Rattle.replay.specs.Writer.{scheduleBy, apartFrom, apartSchedule}
+use Rattle.replay.specs.Needs.{PutsApart}
 
 -- ---- the thread that steps
 

@@ -24,6 +24,7 @@ use Rattle.steps.specs.Going.{wentOn, goOn, begun, played, generation}
 use Rattle.steps.proofs.Entries.{go-on-joined, one-on}
 use Rattle.programs.specs.Program.{program}
 use Rattle.replay.specs.Schedules.{Stops, Complete, stopped, mismatched, Clean}
+use Rattle.replay.specs.Claims.{AllTied}
 use Rattle.programs.proofs.Programs as programs
 use Rattle.replay.proofs.Tied as tied
 use Rattle.replay.proofs.Ties.{allowed-steps, steps-allowed, blocked-is, unset-is, no-barrier}
@@ -125,3 +126,14 @@ module _ {table lengths : List ℕ} (K : Keeps table lengths) where
   clean-long {σ} C =
       let D = clean-to C in
       sym (length-reverse σ) ∙ legal-all K (reverse σ) (D .legal) (all-ran (programs.lawful K) H (reverse σ) D)
+
+-- ---- the claim
+
+pub all-tied : AllTied
+all-tied commands lengths K =
+    record {
+      threads = programs.threads K;
+      complete = λ σ. (complete-to K, λ c. subst (Complete commands lengths) (reverse-reverse σ) (complete-from K c));
+      clean = λ σ. (clean-to K, clean-from K);
+      gens = λ σ C. generation-is K (clean-through K σ (C .through));
+    }

@@ -19,7 +19,8 @@ use Rattle.relation.specs.Table.{words, inside, related}
 use Rattle.relation.proofs.Truth.{clashing, both, isnt}
 use Rattle.turns.specs.Turns.{goesFirst}
 use Rattle.replay.specs.declared.writer.Written.{Written}
-use Rattle.replay.specs.Writer.{scheduleBy, schedule, firstSchedule, apartFrom, PutsApart}
+use Rattle.replay.specs.Writer.{scheduleBy, schedule, apartFrom}
+use Rattle.replay.specs.Needs.{firstSchedule, PutsApart}
 use Rattle.steps.specs.declared.state.Replay.{Replay}
 use Rattle.steps.specs.State.{start}
 use Rattle.steps.specs.Writing.{pickedFirst, writes, FilledBy}

@@ -35,16 +35,6 @@ apartFrom ρ c d x = eqb x d || not (ρ c x)
 abbrev pub apartSchedule : List ℕ → List ℕ → (ℕ → ℕ → Bool) → (c d : ℕ) → List ℕ
 apartSchedule commands lengths ρ c d = scheduleBy (pickedFirst (apartFrom ρ c d) lengths) commands lengths
 
--- ---- which commands go first, as a list that a function is lent
-
-abbrev pub firstSchedule : List Bool → List ℕ → List ℕ → List ℕ
-firstSchedule early commands lengths = scheduleBy (pickedFirst (goesFirst early) lengths) commands lengths
-
--- the list says it of d and of what c does not reach
-pub record PutsApart (ρ : ℕ → ℕ → Bool) (c d : ℕ) (before after : List Bool) : Type 0 where
-  pub long : length after ≡ length before
-  pub each : (x : ℕ) → x < length before → goesFirst after x ≡ apartFrom ρ c d x
-
 -- ---- refusals
 
 -- the room of a schedule writer, which is lent no other: the schedule room (2)

@@ -4,7 +4,7 @@ ghost use Prim.Native.Nat.{_≤_, min};
 ghost use lib.ListN.{length};
 ghost use Rattle.tables.specs.Limits.{mostRows};
 ghost use Rattle.relation.specs.Table.{related};
-ghost use Rattle.replay.specs.Writer.{firstSchedule, PutsApart};
+ghost use Rattle.replay.specs.Needs.{firstSchedule, PutsApart};
 ghost use Rattle.replay.specs.Doors.{WritesBy, WritesSchedule, WritesApart};
 use relation::related;
 use rooms::short_room;

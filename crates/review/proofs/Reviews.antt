@@ -29,7 +29,7 @@ use Rattle.happens.specs.HappensBefore.{Reached}
 use Rattle.happens.specs.Promise.{PutsHappensBefore}
 use Rattle.faults.specs.Faults.{faults}
 use Rattle.sheet.specs.Sheet.{sheetOf}
-use Rattle.findings.specs.Findings.{firstPair, faultTold, Finds}
+use Rattle.findings.specs.Findings.{firstPair, faultTold, faultPairs, Finds}
 use Rattle.review.specs.Judge.{put, generationsBy, reaches, verdictOf}
 use Rattle.review.specs.Agreement.{number, Judges, Reviewed}
 use Rattle.verdicts.proofs.FirstTold.{or-first, or-second}
@@ -152,6 +152,7 @@ module _ (commands lengths σ relation room : List ℕ) where
             let e : numbered (r .verdict) ≡ faultTold commands lengths g (reaches commands lengths σ) = d ∙ rw (found Reuse, found Race) in
             let q : numbered (r .verdict) ≡ verdicts = e ∙ or-second (judged lengths (played commands lengths σ)) _ clean ∙ or-second refusal _ pass in
             let n : number r ≡ faultTold commands lengths g (reaches commands lengths σ) .number = ap (λ (t : Told). t .number) e in
+            let s : r .sheet ≡ sheetOf (faultPairs commands lengths g (reaches commands lengths σ)) = F .sheet ∙ rw (eq-eqb _ 0 once-more, found Reuse, found Race) in
             let f : fills (number r) ≡ true = ap fills n ∙ fault-fills (faults commands lengths g (reaches commands lengths σ) Reuse) (faults commands lengths g (reaches commands lengths σ) Race) in
             record {
               demand₁ =
@@ -164,6 +165,6 @@ module _ (commands lengths σ relation room : List ℕ) where
                     generations-beyond = λ p h. ap (λ (r : List ℕ). getD r p 0) is-put ∙ put-beyond (played commands lengths σ .generations) room (rows commands) fits p h;
                   };
               demand₂ =
-                  record { verdict = λ ρ T. q ∙ verdict-same commands lengths σ ρ T _ _; sheet = λ ρ T _. F .sheet ∙ rw (eq-eqb _ 0 once-more, found Reuse, found Race) ∙ ap sheetOf (pairs-same commands lengths σ ρ T); relation-holds = λ _. reached; generations-hold = λ _. is-put };
+                  record { verdict = λ ρ T. q ∙ verdict-same commands lengths σ ρ T _ _; sheet = λ ρ T _. s ∙ ap sheetOf (pairs-same commands lengths σ ρ T); relation-holds = λ _. reached; generations-hold = λ _. is-put };
               demand₃ = third (r .verdict) q;
             }

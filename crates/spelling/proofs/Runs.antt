@@ -4,7 +4,7 @@ use mathlib.Core.Logic.{⊎-elim}
 use mathlib.Core.Bool.{Bool, true, false, cond}
 use mathlib.Mathlib.Data.Bool.Basic.{dichotomy}
 use mathlib.Core.List.{List, [], _∷_, _++_}
-use Prim.Native.Nat.{ℕ, suc, _≤_, _<_}
+use Prim.Native.Nat.{ℕ, suc, _+_, _≤_, _<_}
 use native.Mathlib.Omega.{arith}
 use lib.ListN.{length, getD, take, drop, take-append-drop}
 use Rattle.spelling.specs.Bytes.{run}
@@ -48,11 +48,15 @@ module _ (p : ℕ → Bool) where
   run-stops [] = refl
   run-stops (b ∷ s) = run-cases b s (λ n. run p (drop n (b ∷ s)) ≡ 0) (λ e. run-stops s) (run-none b s)
 
-  pub run-whole : (w s : List ℕ) → run p w ≡ length w → run p s ≡ 0 → run p (w ++ s) ≡ length w
-  run-whole [] s e z = z
-  run-whole (b ∷ w) s e z =
+  -- a run goes on behind bytes that all pass
+  pub run-past : (w s : List ℕ) → run p w ≡ length w → run p (w ++ s) ≡ length w + run p s
+  run-past [] s e = omega arith
+  run-past (b ∷ w) s e =
       ⊎-elim (λ (f : p b ≡ false). absurd (omega (arith, run-none b w f)))
-      (λ (f : p b ≡ true). run-more b (w ++ s) f ∙ ap suc (run-whole w s (omega (arith, run-more b w f)) z)) (dichotomy (p b))
+      (λ (f : p b ≡ true). omega (arith, run-more b (w ++ s) f, run-past w s (omega (arith, run-more b w f)))) (dichotomy (p b))
+
+  pub run-whole : (w s : List ℕ) → run p w ≡ length w → run p s ≡ 0 → run p (w ++ s) ≡ length w
+  run-whole w s e z = omega (arith, run-past w s e, z)
 
   run-front : (w r : List ℕ) → run p (w ++ r) ≡ 0 → run p w ≡ 0
   unfolding run

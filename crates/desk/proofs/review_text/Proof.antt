@@ -16,7 +16,7 @@ conclude-requires c κs = (record { numbers = full-numbers; threads = full-threa
 
 returns-2 : tie.Need-returns-2
 unfolding leastRoom
-returns-2 c = reviewed-text _ _ (omega (arith, c .before .before .before .before .before .before .before .before .before .before .before .before .before .before .if1 .left)) (c .before .before .before .before .before .before .before .before .before .conclude .ensures .told) (c .before .before .print .ensures)
+returns-2 c = reviewed-text _ _ (omega (arith, c .before .before .before .before .before .before .before .before .before .before .before .before .before .before .if1 .left)) (c .before .before .before .before .before .before .before .before .before .conclude .ensures .concludes) (c .before .before .print .ensures)
 
 pub review-text-spec : {M : Type 1} → statement M
 review-text-spec =

@@ -7,7 +7,7 @@ use native.Mathlib.Omega.{arith}
 use borrow.Author.Tests.{ne-eqb}
 use Rattle.tables.specs.Limits.{mostRows, barriers}
 use Rattle.tables.specs.Rows.{rows}
-use Rattle.happens.specs.Leaders.{seats, Seated}
+use Rattle.happens.specs.Needs.{seats, Seated}
 use Rattle.happens.proofs.Leading.{seated-more, seated-on}
 use borrow.Author.Needs.{needs}
 use Rattle.happens.proofs.leaders.choose.Statement.{statement}

@@ -3,7 +3,7 @@ use mathlib.Core.Path.{_≡_, refl, sym, _∙_}
 use Prim.Native.Nat.{_≤_}
 use native.Mathlib.Omega.{arith}
 use Rattle.tables.specs.Rows.{rows}
-use Rattle.happens.specs.Leaders.{meetsRow, lastBelow, lastMet}
+use Rattle.happens.specs.Needs.{meetsRow, lastBelow, lastMet}
 use Rattle.happens.proofs.Leading.{last-here, last-on}
 use borrow.Author.Needs.{needs}
 use Rattle.happens.proofs.leaders.last_met.Statement.{statement}

@@ -5,7 +5,7 @@ use lib.ListN.{length}
 use native.Mathlib.Omega.{arith}
 use Rattle.tables.specs.Limits.{mostRows}
 use Rattle.tables.specs.Rows.{rows}
-use Rattle.happens.specs.Draws.{DrawsBelow, Adds}
+use Rattle.happens.specs.Needs.{DrawsBelow, Adds}
 use Rattle.happens.proofs.Drawing.{adds-none, adds-join, adds-map, below-more, more-below}
 use borrow.Author.Needs.{needs}
 use Rattle.happens.proofs.pairs.put_pairs.Statement.{statement}
