@@ -9,18 +9,19 @@ use native.Mathlib.Numerals.{add-one}
 use native.Mathlib.Omega.{arith}
 use lib.ListN.{length, getD, length-append}
 use borrow.Author.Tests.{eqb-true, eqb-false, eq-eqb, ne-eqb, ltb-true, lt-ltb, not-true}
-use Rattle.tables.specs.Rows.{rows, threadOf, isFirst}
+use Rattle.tables.specs.Rows.{rows, isFirst}
 use Rattle.tables.proofs.Rows.{past-first}
 use Rattle.relation.proofs.Truth.{clashing, split, isnt, both, pair, either, left, right}
 use Rattle.schedules.specs.Machine.{Program}
-use Rattle.schedules.specs.HappensBefore.{Reaches, reach, Reuse, Succeeds}
+use Rattle.schedules.specs.HappensBefore.{Reaches, reach, Succeeds}
 use Rattle.schedules.proofs.Table.{decides}
 use Rattle.sheet.specs.declared.Pair.{Pair}
 use Rattle.faults.specs.declared.faults.Fault.{Fault}
 use Rattle.faults.specs.declared.faults.Fault.the-variants as fault
 use Rattle.programs.specs.Program.{program}
 use Rattle.sheet.specs.Sheet as sheet
-use Rattle.faults.specs.Faults.{succeeds, reuse, conflict, race, alongRow, allRows, pairOf, faulty, faults}
+use Rattle.faults.specs.Faults.{succeeds, reuse, race, alongRow, allRows, pairOf, faulty, faults}
+use Rattle.faults.specs.Claims.{ReuseIs, RaceIs, Listed, InOrder, Once}
 
 -- ---- the pairs of one row
 
@@ -90,13 +91,6 @@ module _ (found : ℕ → ℕ → Bool) (to : ℕ → ℕ → Pair) (m : ℕ) wh
       row-only (found n) (to n) m (k - length (allRows found to m n)) (omega (arith, length-append (allRows found to m n) (alongRow (found n) (to n) m))) in
       (n, j, omega arith, b, e, omega (arith, length-append (allRows found to m n) (alongRow (found n) (to n) j))))
 
--- A list has each pair that is found once, by outer numbers and then by inner ones.
-pub record Listed (found : ℕ → ℕ → Bool) (to : ℕ → ℕ → Pair) (m : ℕ) (ps : List Pair) : Type 0 where
-  pub place : ℕ → ℕ → ℕ
-  pub there : (i j : ℕ) → i < m → j < m → found i j ≡ true → (place i j < length ps) × (getD ps (place i j) (sheet.pair 0 0) ≡ to i j)
-  pub only : (k : ℕ) → k < length ps → (i : ℕ) × (j : ℕ) × (i < m) × (j < m) × (found i j ≡ true) × (place i j ≡ k)
-  pub ordered : (i j x y : ℕ) → j < m → found i j ≡ true → (i < x) ⊎ ((i ≡ x) × (j < y)) → place i j < place x y
-
 -- what follows the elements of a list stands at their number
 seam : (qs rest : List Pair) (p : Pair) → (length qs < length (qs ++ p ∷ rest)) × (getD (qs ++ p ∷ rest) (length qs) (sheet.pair 0 0) ≡ p)
 seam [] rest p = (omega arith, refl)
@@ -124,17 +118,22 @@ module _ (commands lengths : List ℕ) (g : ℕ → ℕ) (ρ : ℕ → ℕ → B
   abbrev m : ℕ
   m = rows commands
 
-  pub in-order : Listed (faulty commands lengths g ρ f) (pairOf f) m (faults commands lengths g ρ f)
+  pub in-order : InOrder commands lengths g ρ f
   unfolding faults
   in-order = all-listed (faulty commands lengths g ρ f) (pairOf f) m
 
   -- a pair has one place
-  pub once : (i j k : ℕ) → k < length (faults commands lengths g ρ f) → getD (faults commands lengths g ρ f) k (sheet.pair 0 0) ≡ pairOf f i j
+  one-place : (i j k : ℕ) → k < length (faults commands lengths g ρ f) → getD (faults commands lengths g ρ f) k (sheet.pair 0 0) ≡ pairOf f i j
       → in-order .place i j ≡ k
-  once i j k l e =
+  one-place i j k l e =
       let (x, y, lx, ly, t, q) = in-order .only k l in
       let (a, b) = pair-one f (sym (rw q at (in-order .there x y lx ly t .1)) ∙ e) in
       rw (sym a, sym b) q
+
+  pub once : Once commands lengths g ρ f
+  once k l lk ll e =
+      let (i, j, li, lj, t, q) = in-order .only k lk in
+      sym q ∙ one-place i j l ll (sym e ∙ rw q at (in-order .there i j li lj t .1))
 
   pub no-faults : faults commands lengths g ρ f ≡ [] → (i j : ℕ) → i < m → j < m → faulty commands lengths g ρ f i j ≡ false
   no-faults e i j li lj = isnt _ (λ t. absurd (omega (arith, in-order .there i j li lj t .0, ap length e)))
@@ -193,7 +192,7 @@ module _ (commands lengths : List ℕ) (g : ℕ → ℕ) where
     λ s. pair _ _ (s .reg₁) (pair _ _ (s .reg₂) (pair _ _ (eq-eqb _ _ (s .at)) (eq-eqb _ _ (add-one (g c₁) ∙ sym (s .gen))))),
   )
 
-  pub reuse-is : (c₁ c₂ : ℕ) → c₁ < rows commands → c₂ < rows commands → (reuse commands lengths g (reach P g) c₁ c₂ ≡ true) ↔ Reuse P g c₁ c₂
+  pub reuse-is : ReuseIs commands lengths g
   unfolding reuse
   reuse-is c₁ c₂ l₁ l₂ =
       let d = decides P g c₁ (c₂ - 1) l₁ (omega arith) in (
@@ -223,8 +222,7 @@ module _ (commands lengths : List ℕ) (g : ℕ → ℕ) where
             (split (isFirst lengths c₂))),
       )
 
-  pub race-is : (x y : ℕ) → x < rows commands → y < rows commands → (race commands lengths (reach P g) x y ≡ true)
-      ↔ ((x < y) × (conflict commands x y ≡ true) × (threadOf lengths x ≢ threadOf lengths y) × (¬ Reaches P g x y) × (¬ Reaches P g y x))
+  pub race-is : RaceIs commands lengths g
   unfolding race
   race-is x y lx ly =
       let (u, v) = decides P g x y lx ly in

@@ -19,7 +19,8 @@ use Rattle.faults.specs.declared.faults.Fault.{Fault}
 use Rattle.faults.specs.declared.faults.Fault.the-variants.{Reuse, Race}
 use Rattle.faults.specs.declared.faults.Seen.{Seen}
 use Rattle.faults.specs.Faults.{succeeds, reuse, conflict, race, faulty}
-use Rattle.faults.specs.Tests.{seenAt, succeedsBy, reuseBy, conflictBy, raceBy, isFault}
+use Rattle.faults.specs.Claims.{IsFaulty}
+use Rattle.faults.specs.Tests.{succeedsBy, reuseBy, conflictBy, raceBy, isFault}
 
 -- ---- what is found pairs two commands as the definitions say
 
@@ -53,12 +54,9 @@ at-most a b l =
     by-cases (ℕ-discrete a b) (λ (e : a ≡ b). le-leb a b (omega arith) ∙ sym (eq-eqb a b e))
     (λ (n : a ≢ b). lt-leb a b (omega arith) ∙ sym (ne-eqb a b n))
 
-pub is-faulty : (commands : List ℕ) {lengths heads : List ℕ} → Headed lengths heads (rows commands) → (generations relation : List ℕ)
-    → (f : Fault) (i j : ℕ) → i < rows commands → j < rows commands
-    → isFault relation (rows commands) f (seenAt heads commands generations i) (seenAt heads commands generations j)
-    ≡ faulty commands lengths (numberAt generations) (related relation (rows commands)) f i j
+pub is-faulty : IsFaulty
 unfolding succeeds reuse conflict race succeedsBy reuseBy conflictBy raceBy
-is-faulty commands {lengths} {heads} H generations relation Reuse i j li lj =
+is-faulty commands lengths heads H generations relation Reuse i j li lj =
     let e = H .head i li in
     rw (at-most i (numberAt heads i) (omega (arith, head-low lengths i)), first-by-head H i li)
-is-faulty commands H generations relation Race i j li lj = rw (same-by-head H i j li lj)
+is-faulty commands lengths heads H generations relation Race i j li lj = rw (same-by-head H i j li lj)

@@ -61,7 +61,7 @@ found-faults : (commands : List ℕ) {lengths heads : List ℕ} → Headed lengt
     → allFound heads commands generations relation f ≡ faults commands lengths (numberAt generations) (related relation (rows commands)) f
 unfolding faultAt
 found-faults commands {lengths} {heads} H generations relation f =
-    all-faults commands lengths (numberAt generations) (related relation (rows commands)) f (faultAt heads commands generations relation f) (is-faulty commands H generations relation f)
+    all-faults commands lengths (numberAt generations) (related relation (rows commands)) f (faultAt heads commands generations relation f) (is-faulty commands lengths heads H generations relation f)
 
 pub looked-over : (commands : List ℕ) {lengths heads : List ℕ} → Headed lengths heads (rows commands) → (generations relation : List ℕ) {r : Finding}
     → LookedBy heads commands generations relation r → LookedOver commands lengths generations relation r

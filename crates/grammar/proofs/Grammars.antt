@@ -9,6 +9,7 @@ use Rattle.spelling.specs.Numbers.{mostNumber, decimal, Means}
 use Rattle.spelling.specs.Spells.{none, gap, token}
 use Rattle.spelling.proofs.Laws.{Lexer, Grammar, To, Goes, Walk}
 use Rattle.spelling.proofs.Machines.{found-none}
+use Rattle.spelling.proofs.Spelt.{spelt-tokens}
 use Rattle.grammar.specs.declared.tokens.Token.{Token}
 use Rattle.grammar.specs.declared.tokens.Token.the-variants.{Access, Signal, Return, Number, Semi, Bars}
 use Rattle.grammar.specs.declared.automaton.State.{State}
@@ -18,9 +19,10 @@ use Rattle.grammar.specs.Spelling.{Spelling, extends, returnWord}
 use Rattle.grammar.specs.Grammar as G
 use Rattle.grammar.specs.Grammar.{access, signal, threadTokens, behind, listingTokens, Whole, Spells}
 use Rattle.grammar.specs.Automaton.{tokenMoves, mayEnd, move, nextMove}
+use Rattle.grammar.specs.Claims.{OneListing}
 use Rattle.grammar.proofs.Lexes.{Fits, token-found, size-found, some, tight, spelt, apart, pos, most, blank-ends}
 use Rattle.grammar.proofs.Steps.{by-step}
-use Rattle.grammar.proofs.Listings.{listing-found}
+use Rattle.grammar.proofs.Listings.{listing-found, listing-one}
 
 -- the tokens of a program from a thread's command on
 abbrev rest : List G.Command → List (List G.Command) → List Token
@@ -135,3 +137,6 @@ lexer =
 
 pub grammar : Grammar nextMove mayEnd Word Fits Spells Whole
 grammar = record { fits = fits; sound = sound; complete = complete; live = live }
+
+pub one-listing : OneListing
+one-listing text x y d e = listing-one x y (sym (spelt-tokens lexer d) ∙ spelt-tokens lexer e)

@@ -14,6 +14,7 @@ use Rattle.verdicts.specs.declared.Told.{Told}
 use Rattle.tables.specs.Limits.{mostRows, mostThreads, barriers, mostCount}
 use Rattle.tables.specs.Rows.{rows, kind, name, count, total, arrive, sync}
 use Rattle.rules.specs.Rules.{rowKeeps, keeps, firstBad, badCommands, badLengths, checked, Keeps}
+use Rattle.rules.specs.Claims.{PassesExactly}
 use Rattle.verdicts.specs.Verdicts.{tell}
 use Rattle.tables.proofs.Lowest.{Lowest, lowest-first, lowest-is}
 
@@ -131,6 +132,9 @@ module _ (commands lengths : List ℕ) where
   kept k =
       let all : bad ≡ rows commands = lowest-is _ (record { at-most = omega arith; passes = λ l. absurd (omega arith); below = λ c l. ap not (k .each-row c l) }) in
       refuses-none (good-commands commands (k .whole) (k .few-rows)) (k .some-thread) (k .few-threads) (k .adds-up) (omega arith)
+
+pub passes-exactly : PassesExactly
+passes-exactly commands lengths = (passes commands lengths, kept commands lengths)
 
 -- number 0 is told of tables that keep the rules, and of no others
 zero-answer : (a b d : Bool) (i : ℕ) → answer a b d i .number ≡ 0 → answer a b d i ≡ tell 0 0 0

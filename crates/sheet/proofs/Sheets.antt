@@ -10,7 +10,8 @@ use lib.ListN.{length, set, take, length-append}
 use borrow.Author.Tests.{lt-ltb, le-ltb}
 use Rattle.sheet.specs.declared.Pair.{Pair}
 use Rattle.sheet.specs.declared.Sheet.{Sheet}
-use Rattle.sheet.specs.Sheet.{mostKept, mostCounted, firsts, sheetOf, keptPairs, added, addAll}
+use Rattle.sheet.specs.Sheet.{mostKept, mostCounted, firsts, sheetOf, added, addAll}
+use Rattle.sheet.specs.Claims.{SheetTotal, KeptAre}
 
 -- ---- one pair more
 
@@ -64,7 +65,7 @@ unfolding addAll added
 addAll-total s [] = omega arith
 addAll-total s (p ∷ ps) = omega (arith, addAll-total (added s p) ps)
 
-pub sheet-total : (ps : List Pair) → sheetOf ps .total ≡ length ps
+pub sheet-total : SheetTotal
 unfolding sheetOf
 sheet-total ps = refl
 
@@ -87,6 +88,6 @@ kept-firsts zero (p ∷ ps) = simp unary-clauses
 kept-firsts (suc n) [] = simp unary-clauses
 kept-firsts (suc n) (p ∷ ps) = simp unary-clauses (ap (λ (l : List Pair). p ∷ l) (kept-firsts n ps))
 
-pub kept-are : (ps : List Pair) → keptPairs (sheetOf ps) ≡ take mostKept ps
+pub kept-are : KeptAre
 unfolding sheetOf
 kept-are ps = kept-firsts mostKept ps

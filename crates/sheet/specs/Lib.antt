@@ -1,3 +1,4 @@
--- Read in this order: Sheet (the sheet of a list of pairs, and one pair more); Promise (what the public functions promise).
+-- Read in this order: Sheet (the sheet of a list of pairs, and one pair more); Promise (what the public functions promise); Claims (what is proved of the sheet of a list).
 pub mod Sheet
 pub mod Promise
+pub mod Claims

@@ -11,6 +11,7 @@ use Rattle.spelling.specs.declared.number.Numeral.{Numeral}
 use Rattle.spelling.specs.declared.number.Numeral.the-variants.{Number, NotNumber}
 use Rattle.spelling.specs.Bytes.{classOf, is, digit, run}
 use Rattle.spelling.specs.Numbers.{mostNumber, decimal, Means, numeralOf}
+use Rattle.spelling.specs.Claims.{NumberExactly}
 use Rattle.spelling.proofs.Scans.{drop-next}
 
 -- the four tests of a number
@@ -36,7 +37,6 @@ lone n b e q = by-test (eqb n 1) refl (rw q at e)
     by-test true h g = eqb-true n 1 h
     by-test false h g = absurd (true≢false (sym g))
 
--- bytes are read as a number exactly when they mean it
 pub means-number : (w : List ℕ) (n : ℕ) → Means w n → numeralOf w ≡ Number n
 unfolding numeralOf
 means-number w n h =
@@ -53,6 +53,9 @@ number-means w n e =
       value = h .4;
       small = omega (arith, leb-true (decimal 0 w) mostNumber (h .3), h .4);
     }
+
+pub number-exactly : NumberExactly
+number-exactly w n = (number-means w n, means-number w n)
 
 pub means-nothing : (w : List ℕ) → ((n : ℕ) → Means w n → ⊥) → numeralOf w ≡ NotNumber
 means-nothing w h = by-numeral (numeralOf w) refl

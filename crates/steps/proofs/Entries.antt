@@ -22,6 +22,7 @@ use Rattle.steps.specs.declared.step.Did.{Did}
 use Rattle.steps.specs.declared.step.Did.the-variants.{NotAllowed, Took}
 use Rattle.steps.specs.declared.going.Replayed.{Replayed}
 use Rattle.barriers.specs.Counting.{counted}
+use Rattle.steps.specs.Claims.{GoOnJoined, StaysEnded}
 use Rattle.steps.specs.Step.{stepped}
 use Rattle.steps.specs.Going.{standing, wentOn, oneOn, goOn}
 use Rattle.steps.specs.Writing.{goesOn}
@@ -29,14 +30,12 @@ use Rattle.steps.specs.Needs.{applied}
 use Rattle.steps.proofs.Stepping.{Found, found-did, found-kept, found-after}
 
 module _ (commands lengths : List ℕ) where
-  -- Entries that are joined go on one after the other, from any point.
-  pub go-on-joined : (σ τ : List ℕ) (r : Replayed) → goOn commands lengths (σ ++ τ) r ≡ goOn commands lengths τ (goOn commands lengths σ r)
+  pub go-on-joined : GoOnJoined commands lengths
   unfolding goOn
   go-on-joined [] τ r = refl
   go-on-joined (t ∷ σ) τ r = go-on-joined σ τ (oneOn commands lengths r t)
 
-  -- Where a replay has ended, nothing changes.
-  pub stays-ended : (r : Replayed) → numbered (r .verdict) .number ≢ 0 → (σ : List ℕ) → goOn commands lengths σ r ≡ r
+  pub stays-ended : StaysEnded commands lengths
   unfolding goOn oneOn
   stays-ended r n [] = refl
   stays-ended r n (t ∷ σ) = rw (ne-eqb (numbered (r .verdict) .number) 0 n) (stays-ended r n σ)

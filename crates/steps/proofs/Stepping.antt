@@ -24,6 +24,7 @@ use Rattle.steps.specs.declared.step.Did.{Did}
 use Rattle.barriers.specs.Counting.{counted}
 use Rattle.barriers.specs.Barrier.{registration}
 use Rattle.steps.specs.State.{ranSoFar, waiting, barrierAt}
+use Rattle.steps.specs.Claims.{CountOne}
 use Rattle.steps.specs.Step.{registering, stepped}
 use Rattle.steps.specs.Writing.{goesOn}
 use Rattle.steps.specs.Needs.{threadRow, changed, applied, FirstRows}
@@ -139,8 +140,7 @@ module _ (lengths : List ℕ) where
 let-go-none : (w : ℕ) → letGo w 0 ≡ 0
 let-go-none w = ⊎-elim (λ (e : eqb 0 w ≡ true). rw e) (λ (e : eqb 0 w ≡ false). rw e) (split (eqb 0 w))
 
--- With count 1 a sync never stays blocked.
-pub count-one : (s : Replay) (t c b : ℕ) → barrierAt s b .phase ≡ Unset → t < length (s .waits) → waiting (registering s t c true b 1 .after) t ≡ 0
+pub count-one : CountOne
 unfolding registering registration counted
 count-one s t c b e l =
     rw e (ap (getD (released (b + 1) (set (s .waits) t (b + 1))) t) (sym (let-go-none (b + 1)))
