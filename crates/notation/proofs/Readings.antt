@@ -11,7 +11,7 @@ use lib.ListN.{length, length-map}
 use borrow.Author.Tests.{lt-ltb, le-ltb, ltb-true, ltb-false}
 use Rattle.tables.specs.Limits.{mostRows, mostThreads}
 use Rattle.spelling.specs.Machine.{Outcome, outcome, found, flat}
-use Rattle.spelling.specs.Over.{over}
+use Rattle.tables.specs.Over.{over}
 use Rattle.spelling.proofs.Cuts.{start-inside}
 use Rattle.spelling.proofs.Spelt.{spelt-tokens}
 use Rattle.spelling.proofs.Refusals as R

@@ -9,7 +9,7 @@ use Rattle.verdicts.specs.declared.Told.{Told}
 use Rattle.tables.specs.Limits.{mostRows, mostThreads}
 use Rattle.spelling.specs.Machine.{flat}
 use Rattle.spelling.specs.Refusal as R
-use Rattle.spelling.specs.Over.{over}
+use Rattle.tables.specs.Over.{over}
 use Rattle.notation.specs.declared.reading.Reading.{Reading}
 use Rattle.notation.specs.declared.reading.Reading.the-variants.{Unfit, Over, Accepted}
 use Rattle.grammar.specs.Grammar.{Listing, Denotes, Spells, Whole, allCommands, threads, listingRows, listingLengths}
