@@ -5,7 +5,7 @@ use Prim.Native.Nat.{ℕ, zero, suc, _+_, _≤_}
 use native.Mathlib.Omega.{arith}
 use lib.ListN.{length, getD, take, drop, replicate, length-replicate}
 use lib.Seq.{getD-drop, take-append-seam}
-use Rattle.spelling.specs.Over.{over}
+use Rattle.tables.specs.Over.{over}
 use Rattle.spelling.proofs.Runs.{run-none-at, run-past}
 use Rattle.printing.specs.Zeros.{nonzero, beforeZero, NoZero}
 use Rattle.report.specs.Report.{report}

@@ -27,13 +27,15 @@ use Rattle.findings.specs.declared.finding.Finding.{Finding}
 use Rattle.review.specs.Agreement.{Reviewed}
 use Rattle.happens.specs.HappensBefore.{Reached}
 use Rattle.steps.specs.Going.{played}
-use Rattle.review.specs.Judge.{put, generationsBy}
+use Rattle.review.specs.Judge.{generationsBy}
 use Rattle.sheet.specs.Sheet.{sheetOf}
 use Rattle.review.proofs.Bounds.{refused-checked}
 use Rattle.report.specs.declared.Conclusion.{Conclusion}
 use Rattle.desk.specs.Conclusion.{toldOf, pairsOf, ofTables, bare}
 use Rattle.desk.specs.Needs.{FilledRooms, JudgesTables}
+use Rattle.review.proofs.Rooms.{put}
 use Rattle.review.proofs.Telling.{verdict-is, sheet-is}
+use Rattle.steps.proofs.Filled.{filled-room}
 
 -- rooms of zeros are full ones
 pub full-numbers : length {A = ℕ} (replicate 1536 0) ≡ mostRows * 3
@@ -68,11 +70,11 @@ module _ {commands lengths before after : List ℕ} {w : Written} (W : WritesSch
       by-cases (ℕ-discrete (numbered (w .verdict) .number) 0)
       (λ (e : numbered (w .verdict) .number ≡ 0).
       let F = W .wrote e in
-      omega (arith, F .long, full, s, ap (λ (l : List ℕ). length l) (F .room), length-append (schedule commands lengths) (drop (w .length) before)))
+      omega (arith, F .long, full, s, ap (λ (l : List ℕ). length l) (filled-room F), length-append (schedule commands lengths) (drop (w .length) before)))
       (λ (n : numbered (w .verdict) .number ≢ 0). omega (arith, W .refused n .0))
 
   pub steps-are : checked commands lengths .number ≡ 0 → take (w .length) after ≡ schedule commands lengths
-  steps-are e = let F = filled e in ap (λ (l : List ℕ). take (w .length) l) (F .room) ∙ take-at (schedule commands lengths) (drop (w .length) before) (w .length) (sym (F .long))
+  steps-are e = let F = filled e in ap (λ (l : List ℕ). take (w .length) l) (filled-room F) ∙ take-at (schedule commands lengths) (drop (w .length) before) (w .length) (sym (F .long))
 
 -- what the check tells of tables, and is not 0, fills nothing
 checked-unfilled : (commands lengths : List ℕ) → checked commands lengths .number ≢ 0 → fills (checked commands lengths .number) ≡ false

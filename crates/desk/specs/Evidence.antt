@@ -4,7 +4,7 @@ use mathlib.Core.Bool.{Bool}
 use mathlib.Core.List.{List, _++_}
 use Prim.Native.Nat.{ℕ, _≤_, _<_}
 use lib.ListN.{length, getD}
-use Rattle.spelling.specs.Over.{over}
+use Rattle.tables.specs.Over.{over}
 use Rattle.notation.specs.Reading.{rowNumbers, threadLengths}
 use Rattle.replay.specs.Writer.{schedule}
 use Rattle.sheet.specs.declared.Pair.{Pair}

@@ -6,13 +6,14 @@ use Prim.Native.Nat.{ℕ, _*_, _≤_}
 use lib.ListN.{length, take}
 use Rattle.tables.specs.Limits.{mostRows, mostThreads}
 use Rattle.tables.specs.Rows.{rows}
+use Rattle.tables.specs.Over.{over}
 use Rattle.verdicts.specs.Numbers.{hasPairs}
 use Rattle.relation.specs.Table.{words}
 use Rattle.notation.specs.Reading.{rowNumbers, threadLengths}
 use Rattle.steps.specs.Going.{played}
 use Rattle.replay.specs.Writer.{schedule}
 use Rattle.happens.specs.HappensBefore.{Reached}
-use Rattle.review.specs.Judge.{put, generationsBy}
+use Rattle.review.specs.Judge.{generationsBy}
 use Rattle.report.specs.declared.Conclusion.{Conclusion}
 use Rattle.desk.specs.declared.conclusion.Concluded.{Concluded}
 use Rattle.desk.specs.Conclusion.{readAs, ofTables, ofText}
@@ -30,7 +31,7 @@ pub record FullRooms (relation generations : List ℕ) : Type 0 where
 -- The rooms hold happens-before and the generations of the writer's schedule.
 pub record FilledRooms (commands lengths relation generations relation′ generations′ : List ℕ) : Type 0 where
   pub reached : Reached commands lengths (Rattle.review.specs.Judge.generationsBy commands lengths (schedule commands lengths)) relation relation′
-  pub numbers : generations′ ≡ put (played commands lengths (schedule commands lengths) .generations) (rows commands) generations
+  pub numbers : generations′ ≡ over (take (rows commands) (played commands lengths (schedule commands lengths) .generations)) generations
 
 -- two tables are judged; for 10 and 11 the rooms are filled
 pub record JudgesTables (commands lengths relation generations : List ℕ) (r : Conclusion) (relation′ generations′ : List ℕ) : Type 0 where

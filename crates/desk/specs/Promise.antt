@@ -11,7 +11,7 @@ use Rattle.verdicts.specs.Verdicts.{tell}
 use Rattle.verdicts.specs.Numbers.{isComplete, settles, disagrees, isUnread}
 use Rattle.verdicts.specs.declared.Told.{Told}
 use Rattle.spelling.specs.Machine.{flat}
-use Rattle.spelling.specs.Over.{over}
+use Rattle.tables.specs.Over.{over}
 use Rattle.grammar.specs.Grammar.{Listing, Denotes, allCommands, threads, listingRows, listingLengths}
 use Rattle.notation.specs.Reading.{mostBytes}
 use Rattle.notation.specs.Promise.{Within, RefusedAt}

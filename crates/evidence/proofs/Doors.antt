@@ -29,14 +29,15 @@ use Rattle.evidence.specs.Evidence.{Disputes, HasBefore, against, bothWa
 use Rattle.evidence.specs.Doors.{evidenceRefusal, refusalOf, scheduleAt, Opposes, HoldsEvidence, Admissible, Evidenced}
 use Rattle.evidence.proofs.Shown.{shown-ten, shown-orders, shown-long, evidence-is}
 use Rattle.evidence.proofs.Slices.{both-long, x-at, y-at, nothing-of}
+use Rattle.steps.proofs.Filled.{filled-room}
 
 -- what stands first in a room that is filled
 front-is : {τ room room′ : List ℕ} {n : ℕ} → FilledBy τ room room′ n → take n room′ ≡ τ
-front-is {τ} {room} {room′} {n} F = ap (take n) (F .room) ∙ take-at τ (drop n room) n (sym (F .long))
+front-is {τ} {room} {room′} {n} F = ap (take n) (filled-room F) ∙ take-at τ (drop n room) n (sym (F .long))
 
 -- nothing fills
 none-is : {room room′ : List ℕ} {n : ℕ} → FilledBy [] room room′ n → (n ≡ 0) × (room′ ≡ room)
-none-is {room} {room′} {n} F = (F .long, F .room ∙ ap (λ (k : ℕ). drop k room) (F .long))
+none-is {room} {room′} {n} F = (F .long, filled-room F ∙ ap (λ (k : ℕ). drop k room) (F .long))
 
 -- ---- what the room holds
 
@@ -57,7 +58,7 @@ module _ {commands lengths σ relation generations : List ℕ} {f : Finding} {re
   opposes : number f ≡ 11 → (k : ℕ) → k < length (keptPairs (f .sheet)) → Opposes commands lengths room′ k (getD (keptPairs (f .sheet)) k (pair 0 0))
   opposes e k l =
       let ps = keptPairs (f .sheet) in
-      let is : room′ ≡ bothWays commands lengths ρ ps ++ drop n room = F .room ∙ ap (λ (τ : List ℕ). τ ++ drop n room) (eleven-is e) in
+      let is : room′ ≡ bothWays commands lengths ρ ps ++ drop n room = filled-room F ∙ ap (λ (τ : List ℕ). τ ++ drop n room) (eleven-is e) in
       let p = getD ps k (pair 0 0) in
       let (a, b) = shown-orders R pass e k l in
       record {

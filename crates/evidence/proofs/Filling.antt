@@ -14,10 +14,11 @@ use Rattle.sheet.specs.Sheet.{mostKept, firstKept}
 use Rattle.steps.specs.Writing.{FilledBy}
 use Rattle.evidence.specs.Evidence.{bothWays, against, evidenceOf}
 use Rattle.evidence.specs.Needs.{PutsAt, FitsAt, FitsAll, Showable}
+use Rattle.steps.proofs.Filled.{filled-by}
 
 -- what is put from the front fills
 puts-fills : {σ room room′ : List ℕ} {r : ℕ} → PutsAt σ room room′ 0 r → FilledBy σ room room′ r
-puts-fills Q = record { long = omega (arith, Q .ends); room = Q .room }
+puts-fills Q = filled-by (omega (arith, Q .ends)) (Q .room)
 
 module _ {commands lengths : List ℕ} {s : Sheet} {room : List ℕ} (S : Showable commands lengths s room) where
   pub show-one : FitsAt commands lengths room 0
@@ -44,4 +45,4 @@ module _ (commands lengths : List ℕ) (ρ : ℕ → ℕ → Bool) (n : ℕ) (s 
 pub show-none : (commands lengths : List ℕ) (ρ : ℕ → ℕ → Bool) (n : ℕ) (s : Sheet) (room : List ℕ) → n ≢ 10 → n ≢ 11
     → FilledBy (evidenceOf commands lengths ρ n s) room room 0
 unfolding evidenceOf
-show-none commands lengths ρ n s room a b = rw (ne-eqb n 10 a, ne-eqb n 11 b) (record { long = refl; room = refl })
+show-none commands lengths ρ n s room a b = rw (ne-eqb n 10 a, ne-eqb n 11 b) (filled-by refl refl)

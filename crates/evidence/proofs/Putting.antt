@@ -22,6 +22,7 @@ use Rattle.replay.proofs.Refusals.{keeps-written}
 use Rattle.replay.proofs.Places.{schedule-by-few}
 use Rattle.evidence.specs.Evidence.{bothWays, firstFirst, secondFirst}
 use Rattle.evidence.specs.Needs.{PutsAt, FitsAt, FitsAll}
+use Rattle.steps.proofs.Filled.{filled-room}
 
 -- ---- one schedule, from a place on
 
@@ -56,7 +57,7 @@ module _ {σ commands lengths room : List ℕ} {at : ℕ} (short : length σ ≤
       record {
         ends = ap (λ (n : ℕ). at + n) (e .long);
         room =
-            ap₂ (λ (a b : List ℕ). take at room ++ (a ++ b)) (e .room) (nothing-after room at (omega (arith, F .fits)))
+            ap₂ (λ (a b : List ℕ). take at room ++ (a ++ b)) (filled-room e) (nothing-after room at (omega (arith, F .fits)))
             ∙ ap (λ (r : List ℕ). take at room ++ r) (append-nil (σ ++ drop (w .length) (midOf at (length room - at) room)))
             ∙ ap (λ (r : List ℕ). take at room ++ (σ ++ r)) (ap (drop (w .length)) (part-is room at (omega (arith, F .fits))) ∙ drop-drop (w .length) at room);
       }

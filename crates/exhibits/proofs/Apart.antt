@@ -19,6 +19,7 @@ use Rattle.wording.specs.declared.Shown.{Shown}
 use Rattle.exhibits.specs.Shown.{shownBy}
 use Rattle.wording.specs.Lines.{shownLine, stepsLine}
 use Rattle.exhibits.specs.Exhibits.{exhibit}
+use Rattle.steps.proofs.Filled.{filled-room}
 
 -- a full room of zeros has place for a schedule
 pub full-room : {commands lengths : List ℕ} → Keeps commands lengths → Keeps commands lengths × (rows commands ≤ length (replicate {A = ℕ} 512 0))
@@ -33,13 +34,13 @@ fills {commands = commands} {lengths = lengths} {room = room} F W =
 -- the front of the room is the schedule
 module _ {σ room after : List ℕ} {n : ℕ} (B : FilledBy σ room after n) where
   pub front-fits : n ≤ length after
-  front-fits = omega (arith, B .long, ap length (B .room), length-append σ (drop n room))
+  front-fits = omega (arith, B .long, ap length (filled-room B), length-append σ (drop n room))
 
   pub front-long : n ≡ length (take n after)
   front-long = sym (length-take-le n after front-fits)
 
   front-is : take n after ≡ σ
-  front-is = ap (take n) (B .room) ∙ take-at σ (drop n room) n (sym (B .long))
+  front-is = ap (take n) (filled-room B) ∙ take-at σ (drop n room) n (sym (B .long))
 
   -- a line, and below it the front of the room
   pub puts-below : {line a b c : List ℕ} {at m k : ℕ} → PutsBytes a b at line m → PutsBytes b c m (stepsLine (take n after)) k → PutsBytes a c at (line ++ stepsLine σ) k

@@ -10,8 +10,8 @@ use native.Mathlib.Omega.{arith}
 use lib.ListN.{length, set}
 use Rattle.tables.specs.Limits.{mostRows, mostThreads}
 use Rattle.spelling.specs.Machine.{Outcome, Row, outcome, foundAfter, flat}
-use Rattle.spelling.specs.Over.{over}
-use Rattle.spelling.proofs.Filling.{Filling, filling-none, filling-left, filling-count, filling-room, filling-long, filling-done, filling-more, filling-three}
+use Rattle.tables.specs.Over.{over}
+use Rattle.tables.proofs.Over.{Filling, filling-none, filling-left, filling-count, filling-room, filling-long, filling-done, filling-more, filling-three}
 use Rattle.grammar.specs.declared.tokens.Token.{Token}
 use Rattle.grammar.specs.declared.tokens.Met.the-variants as M
 use Rattle.grammar.specs.declared.automaton.State.{State}

@@ -11,7 +11,7 @@ use lib.ListN.{length, length-map}
 use borrow.Author.Tests.{lt-ltb, le-ltb, ltb-true, ltb-false}
 use Rattle.tables.specs.Limits.{mostRows, mostThreads}
 use Rattle.spelling.specs.Machine.{Outcome, outcome, found, flat}
-use Rattle.spelling.specs.Over.{over}
+use Rattle.tables.specs.Over.{over}
 use Rattle.spelling.proofs.Cuts.{start-inside}
 use Rattle.spelling.proofs.Spelt.{spelt-tokens}
 use Rattle.spelling.proofs.Refusals as R
@@ -216,7 +216,6 @@ module _ (text commands lengths commands′ lengths′ : List ℕ) (r : Reading)
         record {
           accepts = accepts;
           accepted = λ m t q. subst (Stands text c l) q meaning;
-          one = λ x y d f. listing-one x y (sym (spelt-tokens lexer d) ∙ spelt-tokens lexer f);
           refuses = λ p q. subst (Stands text c l) q meaning;
           refused = λ p h k. short h ∙ rw (refused-judged text p k);
           too-much = λ q. subst (Stands text c l) q meaning;

@@ -9,7 +9,7 @@ use Rattle.verdicts.specs.declared.Told.{Told}
 use Rattle.tables.specs.Limits.{mostRows, mostThreads}
 use Rattle.spelling.specs.Machine.{flat}
 use Rattle.spelling.specs.Refusal as R
-use Rattle.spelling.specs.Over.{over}
+use Rattle.tables.specs.Over.{over}
 use Rattle.notation.specs.declared.reading.Reading.{Reading}
 use Rattle.notation.specs.declared.reading.Reading.the-variants.{Unfit, Over, Accepted}
 use Rattle.grammar.specs.Grammar.{Listing, Denotes, Spells, Whole, allCommands, threads, listingRows, listingLengths}
@@ -34,14 +34,12 @@ pub record GivesTables (commands lengths commands′ lengths′ : List ℕ) (r :
 abbrev pub RefusedAt : List ℕ → ℕ → Type 0
 RefusedAt text p = R.Refused Spells Whole text (tokens text) (starts text) p
 
--- The promise by the grammar and the tokens of the text, without the automaton.
+-- The promise by the grammar and the tokens of the text, without the automaton. No text denotes two listings (`OneListing`, grammar).
 pub record ByGrammar (text commands lengths commands′ lengths′ : List ℕ) (r : Reading) : Type 0 where
   -- a text that denotes a listing within the limits is read as that listing
   pub accepts : (x : Listing) → Denotes text x → Within text (length commands) (length lengths) x → GivesTables commands lengths commands′ lengths′ r x
   -- what is accepted denotes one
   pub accepted : (m t : ℕ) → r ≡ Accepted m t → (x : Listing) × Denotes text x × Within text (length commands) (length lengths) x
-  -- no text denotes two
-  pub one : (x y : Listing) → Denotes text x → Denotes text y → x ≡ y
   -- 12 exactly at the place where a text that is not too long is refused
   pub refuses : (p : ℕ) → r ≡ Unfit p → (length text ≤ mostBytes) × (p ≤ length text) × RefusedAt text p
   pub refused : (p : ℕ) → length text ≤ mostBytes → RefusedAt text p → r ≡ Unfit p

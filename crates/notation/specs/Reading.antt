@@ -9,7 +9,7 @@ use Rattle.tables.specs.Limits.{mostRows, mostThreads}
 use Rattle.verdicts.specs.Verdicts.{tell}
 use Rattle.verdicts.specs.declared.Told.{Told}
 use Rattle.spelling.specs.Machine.{Outcome, found, flat}
-use Rattle.spelling.specs.Over.{over}
+use Rattle.tables.specs.Over.{over}
 use Rattle.grammar.specs.declared.automaton.State.the-variants.{Word}
 use Rattle.notation.specs.declared.scan.Scanned.{Scanned}
 use Rattle.notation.specs.declared.scan.Scanned.the-variants.{Refused, Passed}

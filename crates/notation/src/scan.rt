@@ -2,7 +2,7 @@
 ghost use mathlib.Core.Path.{_≡_};
 ghost use Prim.Native.Nat.{_+_, _≤_};
 ghost use lib.ListN.{length, set};
-ghost use Rattle.spelling.specs.Over.{over};
+ghost use Rattle.tables.specs.Over.{over};
 ghost use Rattle.notation.specs.Reading.{scannedOf, rowNumbers, threadLengths};
 ghost use Rattle.notation.specs.Needs.{Rooms};
 use grammar::Met;

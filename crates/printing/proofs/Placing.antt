@@ -9,7 +9,7 @@ use native.Mathlib.Numerals.{add-one}
 use native.Mathlib.Omega.{arith}
 use lib.ListN.{length, set, take, getD, length-append, length-set}
 use lib.Seq.{take-suc, take-all, set-out, sets, sets-eq, length-sets}
-use Rattle.spelling.specs.Over.{over}
+use Rattle.tables.specs.Over.{over}
 use Rattle.printing.specs.Putting.{past, PutsBytes}
 
 -- ---- a run of stores

@@ -7,8 +7,8 @@ use native.Mathlib.Omega.{arith}
 use lib.ListN.{length, getD, set, take, drop, length-append, take-append-drop, drop-of-length-le}
 use lib.Seq.{drop-cons, drop-drop, length-take-le}
 use Rattle.verdicts.specs.declared.Told.{Told}
-use Rattle.spelling.specs.Over.{over}
-use Rattle.spelling.proofs.Filling.{Filling, filling-none, filling-left, filling-more, filling-done}
+use Rattle.tables.specs.Over.{over}
+use Rattle.tables.proofs.Over.{Filling, filling-none, filling-left, filling-more, filling-done}
 use Rattle.sheet.specs.declared.Pair.{Pair}
 use Rattle.sheet.specs.Sheet.{pair}
 use Rattle.probe.specs.Numbers.{toldNumbers, pairNumbers}

@@ -6,7 +6,7 @@ use native.Mathlib.Omega.{arith}
 use lib.ListN.{length, set, take, length-drop}
 use Rattle.verdicts.specs.Verdicts.{tell, numbered}
 use Rattle.verdicts.specs.declared.Told.{Told}
-use Rattle.spelling.specs.Over.{over}
+use Rattle.tables.specs.Over.{over}
 use Rattle.notation.specs.Reading.{answered, restAt, restOf}
 use Rattle.notation.specs.Promise.{Read}
 use Rattle.notation.specs.declared.reading.Reading.{Reading}

@@ -11,7 +11,7 @@ use Rattle.relation.specs.Chains.{Chain}
 use Rattle.relation.specs.Table.{Related}
 use Rattle.relation.specs.Bits.{Words}
 use Rattle.relation.proofs.Rooms.{writes-one}
-use Rattle.spelling.specs.Over.{over}
+use Rattle.tables.specs.Over.{over}
 use Rattle.notation.specs.Reading.{answered}
 use Rattle.notation.specs.declared.reading.Reading.{Reading}
 use Rattle.notation.proofs.Readings.{read-one}

@@ -9,7 +9,7 @@ use Rattle.verdicts.specs.Verdicts.{numbered}
 use Rattle.relation.specs.Chains.{Chain}
 use Rattle.relation.specs.Table as table
 use Rattle.relation.specs.Table.{words, Related}
-use Rattle.spelling.specs.Over.{over}
+use Rattle.tables.specs.Over.{over}
 use Rattle.notation.specs.Reading.{answered}
 use Rattle.notation.specs.Promise.{Read}
 use Rattle.notation.specs.declared.reading.Reading.{Reading}

@@ -3,7 +3,7 @@ ghost use mathlib.Core.Path.{_≡_};
 ghost use mathlib.Core.List.{_++_};
 ghost use Prim.Native.Nat.{_≤_, min};
 ghost use lib.ListN.{length, take};
-ghost use Rattle.spelling.specs.Over.{over};
+ghost use Rattle.tables.specs.Over.{over};
 ghost use Rattle.probe.specs.Numbers.{answerRoom, largest, toldNumbers, pairNumbers};
 ghost use Rattle.probe.specs.Needs.{Counted, PairsCounted};
 use sheet::Sheet;

@@ -29,6 +29,7 @@ use Rattle.replay.specs.Schedules.{Complete}
 use Rattle.replay.proofs.Refusals.{unwritten-keeps}
 use Rattle.replay.proofs.Places.{stepping-few}
 use Rattle.replay.proofs.Picking.{picks-lowest, nothing-first, schedule-alike, first-alike}
+use Rattle.steps.proofs.Filled.{filled-by, filled-room}
 
 -- what is no command reaches nothing
 no-row : (relation : List ℕ) (m c x : ℕ) → m ≤ c → related relation m c x ≡ false
@@ -59,12 +60,9 @@ wrote-first early commands lengths before {now} {s} {n} e l F =
     let is : writes early commands lengths (length (take m before)) s ≡ σ = ap₂ (λ (k : ℕ) (s : Replay). writes early commands lengths k s) long e in
     let few : n ≤ length (take m before) = omega (arith, F .long, ap length is, long, stepping-few commands lengths (pickedFirst (goesFirst early) lengths) m start) in
     let back : drop n (take m before) ++ drop m before ≡ drop n before = sym (drop-append-le n (take m before) (drop m before) few) ∙ ap (drop n) (take-append-drop m before) in
-    record {
-      long = F .long ∙ ap length is;
-      room =
-          ap (λ (r : List ℕ). r ++ drop m before) (F .room ∙ ap (λ (l : List ℕ). l ++ drop n (take m before)) is)
-          ∙ append-assoc σ (drop n (take m before)) (drop m before) ∙ ap (λ (l : List ℕ). σ ++ l) back;
-    }
+    filled-by (F .long ∙ ap length is)
+    (ap (λ (r : List ℕ). r ++ drop m before) (filled-room F ∙ ap (λ (l : List ℕ). l ++ drop n (take m before)) is)
+    ∙ append-assoc σ (drop n (take m before)) (drop m before) ∙ ap (λ (l : List ℕ). σ ++ l) back)
 
 module _ {commands lengths before after : List ℕ} {r : Written} where
   -- schedules that are the same for tables that pass

@@ -30,12 +30,12 @@ use Rattle.happens.specs.Promise.{PutsHappensBefore}
 use Rattle.faults.specs.Faults.{faults}
 use Rattle.sheet.specs.Sheet.{sheetOf}
 use Rattle.findings.specs.Findings.{firstPair, faultTold, faultPairs, Finds}
-use Rattle.review.specs.Judge.{put, generationsBy, reaches, verdictOf}
+use Rattle.review.specs.Judge.{generationsBy, reaches, verdictOf}
 use Rattle.review.specs.Agreement.{number, Judges, Reviewed}
 use Rattle.verdicts.proofs.FirstTold.{or-first, or-second}
 use Rattle.replay.proofs.Plays.{PlaysThrough, clean-through}
 use Rattle.replay.proofs.Judged.{judged-ending, clean-verdict}
-use Rattle.review.proofs.Rooms.{put-front, put-beyond}
+use Rattle.review.proofs.Rooms.{put, put-front, put-beyond}
 use Rattle.rooms.proofs.Refusals.{Admitted, refused-small, admitted, admitted-sizes}
 use Rattle.happens.proofs.Reaching.{same-reached, related-reaches}
 use Rattle.faults.proofs.Pairs.{same-faults}

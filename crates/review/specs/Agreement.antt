@@ -4,8 +4,9 @@ use mathlib.Core.Bool.{Bool, true, false}
 use mathlib.Core.List.{List, []}
 use mathlib.Core.Logic.{_↔_, _≢_}
 use Prim.Native.Nat.{ℕ, _≤_, _<_}
-use lib.ListN.{length, getD}
+use lib.ListN.{length, getD, take}
 use Rattle.tables.specs.Rows.{rows}
+use Rattle.tables.specs.Over.{over}
 use Rattle.verdicts.specs.Verdicts.{tell, numbered}
 use Rattle.verdicts.specs.Numbers.{fills, isVerdict, settles, disagrees}
 use Rattle.relation.specs.Bits.{Words}
@@ -17,7 +18,7 @@ use Rattle.sheet.specs.Sheet.{sheetOf}
 use Rattle.faults.specs.Faults.{conflict}
 use Rattle.rooms.specs.Refusals.{reviewRefusal}
 use Rattle.findings.specs.Findings.{faultPairs}
-use Rattle.review.specs.Judge.{put, generationsBy, TellsReach, verdictBy, reaches}
+use Rattle.review.specs.Judge.{generationsBy, TellsReach, verdictBy, reaches}
 use Rattle.replay.specs.Schedules.{Complete, Agree, InOneOrder, Disagree}
 
 -- the number of a review's verdict
@@ -42,7 +43,7 @@ pub record Exact (commands lengths schedule relation generations : List ℕ) (r 
   pub sheet : (ρ : ℕ → ℕ → Bool) → TellsReach commands lengths schedule ρ → fills (number r) ≡ true
       → r .sheet ≡ sheetOf (faultPairs commands lengths (generationsBy commands lengths schedule) ρ)
   pub relation-holds : fills (number r) ≡ true → Reached commands lengths (generationsBy commands lengths schedule) relation relation′
-  pub generations-hold : fills (number r) ≡ true → generations′ ≡ put (played commands lengths schedule .generations) (rows commands) generations
+  pub generations-hold : fills (number r) ≡ true → generations′ ≡ over (take (rows commands) (played commands lengths schedule .generations)) generations
 
 -- The table of Warshall's rounds tells what reaches what.
 abbrev pub RoundsTell : Type 0

@@ -2,9 +2,8 @@
 use mathlib.Core.Path.{_≡_}
 use mathlib.Core.Logic.{_↔_}
 use mathlib.Core.Bool.{Bool, true}
-use mathlib.Core.List.{List, _++_}
+use mathlib.Core.List.{List}
 use Prim.Native.Nat.{ℕ, _<_}
-use lib.ListN.{take, drop}
 use Rattle.verdicts.specs.declared.Told.{Told}
 use Rattle.tables.specs.Rows.{rows}
 use Rattle.schedules.specs.HappensBefore.{Reaches, reach}
@@ -14,10 +13,6 @@ use Rattle.steps.specs.Ending.{judged}
 use Rattle.programs.specs.Program.{program}
 use Rattle.rooms.specs.Refusals.{reviewRefusal}
 use Rattle.findings.specs.Findings.{faultTold}
-
--- the first m numbers are put into a room; the rest is kept
-abbrev pub put : List ℕ → ℕ → List ℕ → List ℕ
-put numbers m room = take m numbers ++ drop m room
 
 module _ (commands lengths schedule : List ℕ) where
   -- the generations of a schedule's commands

@@ -31,6 +31,4 @@ module _ (commands lengths : List ℕ) where
   pub write-on-one : (from : Replay) (early : List Bool) (room : List ℕ) {a b : List ℕ} {m n : ℕ} → WritesOn from commands lengths early room a m
       → WritesOn from commands lengths early room b n → (m ≡ n) × (a ≡ b)
   write-on-one from early room {a} {b} {m} {n} F G =
-      let σ = writes early commands lengths (length room) from in
-      let e : m ≡ n = F .long ∙ sym (G .long) in
-      (e, F .room ∙ ap (λ (k : ℕ). σ ++ drop k room) e ∙ sym (G .room))
+      (F .long ∙ sym (G .long), F .room ∙ sym (G .room))

@@ -25,6 +25,7 @@ use Rattle.steps.specs.State.{ranSoFar}
 use Rattle.steps.specs.Step.{allowed, command, stepped}
 use Rattle.steps.specs.Writing.{goesOn, stepping, picked, pickedFirst, writes, FilledBy}
 use Rattle.steps.proofs.Stepping.{Found, found-did, found-after, found-command, stored}
+use Rattle.steps.proofs.Filled.{filled-by}
 
 module _ (early : List Bool) (commands lengths before : List ℕ) (from : Replay) where
   abbrev choose : Replay → ℕ
@@ -49,7 +50,7 @@ module _ (early : List Bool) (commands lengths before : List ℕ) (from : Replay
     filled : stepping choose commands lengths (length before - i) s ≡ [] → FilledBy (writes early commands lengths (length before) from) before room i
     filled e =
         let f : writes early commands lengths (length before) from ≡ W .front = W .rest-is ∙ ap (λ (l : List ℕ). W .front ++ l) e ∙ append-nil (W .front) in
-        record { long = sym (W .long) ∙ ap length (sym f); room = W .room-is ∙ ap (λ (l : List ℕ). l ++ drop i before) (sym f) }
+        filled-by (sym (W .long) ∙ ap length (sym f)) (W .room-is ∙ ap (λ (l : List ℕ). l ++ drop i before) (sym f))
 
     pub writing-end : length before ≤ i → FilledBy (writes early commands lengths (length before) from) before room i
     unfolding stepping
@@ -105,7 +106,7 @@ module _ (early : List Bool) (commands lengths before : List ℕ) (from : Replay
         unfolding stepping
         writing-last e =
             let f : writes early commands lengths (length before) from ≡ W .front ++ t ∷ [] = W .rest-is ∙ rw (left, there, sym turn-is, did-so e) in
-            record { long = omega (arith, length-append (W .front) (t ∷ []), W .long, ap length f); room = stored-so ∙ ap (λ (r : List ℕ). r ++ drop (i + 1) before) (sym f) }
+            filled-by (omega (arith, length-append (W .front) (t ∷ []), W .long, ap length f)) (stored-so ∙ ap (λ (r : List ℕ). r ++ drop (i + 1) before) (sym f))
 
         -- or the step is written, and the schedule goes on
         pub writing-more : goesOn (made .did) ≡ true → {n x : ℕ} {now : List ℕ} {s′ : Replay} {r′ : Ready} {b′ : Set}

@@ -7,6 +7,7 @@ use Prim.Native.Nat.{ℕ, zero, suc}
 use lib.Dec.{ltb}
 use lib.ListN.{length, drop}
 use Rattle.tables.specs.Lowest.{lowest}
+use Rattle.tables.specs.Over.{over}
 use Rattle.turns.specs.Turns.{goesFirst, lowestOr}
 use Rattle.steps.specs.declared.state.Replay.{Replay}
 use Rattle.steps.specs.declared.step.How.the-variants.{Mismatch, Ran}
@@ -43,7 +44,7 @@ pickedFirst early lengths s = lowestOr (picked early lengths s) (allowed lengths
 -- A schedule stands first in the room, and the room beyond it is kept.
 pub record FilledBy (σ before after : List ℕ) (n : ℕ) : Type 0 where
   pub long : n ≡ length σ
-  pub room : after ≡ σ ++ drop n before
+  pub room : after ≡ over σ before
 
 -- at most n steps from a state, where the commands of a list go first
 abbrev pub writes : List Bool → List ℕ → List ℕ → ℕ → Replay → List ℕ

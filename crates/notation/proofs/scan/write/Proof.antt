@@ -5,7 +5,7 @@ use native.Mathlib.Omega.{arith}
 use lib.ListN.{length}
 use borrow.Author.Needs.{needs}
 use Rattle.tables.specs.Limits.{mostRows, mostThreads}
-use Rattle.spelling.proofs.Filling.{filling-long}
+use Rattle.tables.proofs.Over.{filling-long}
 use Rattle.notation.proofs.Passes.{Writing, writing-start, writing-end, writing-further, writing-refused, writing-on, writing-room, writing-row, writing-place, writing-thread}
 use Rattle.notation.proofs.scan.write.Statement.{statement}
 use Rattle.notation.proofs.scan.write.Tie as tie

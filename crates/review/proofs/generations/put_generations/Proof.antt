@@ -5,8 +5,7 @@ use mathlib.Core.List.{List}
 use native.Mathlib.Omega.{arith}
 use lib.ListN.{length, getD, set}
 use Rattle.tables.specs.Limits.{mostRows}
-use Rattle.review.specs.Judge.{put}
-use Rattle.review.proofs.Rooms.{put-more}
+use Rattle.review.proofs.Rooms.{put, put-more}
 use borrow.Author.Needs.{needs}
 use Rattle.review.proofs.generations.put_generations.Statement.{statement}
 use Rattle.review.proofs.generations.put_generations.Tie as tie

@@ -6,7 +6,7 @@ use native.Mathlib.Numerals.{add-one}
 use native.Mathlib.Omega.{arith}
 use lib.ListN.{length, getD, set, drop, length-append, length-drop}
 use lib.Seq.{drop-cons, set-at}
-use Rattle.spelling.specs.Over.{over}
+use Rattle.tables.specs.Over.{over}
 
 -- of all the numbers those left are still to come; the first i stand in the room, which is as it was from there on
 pub record Filling (all left was now : List ℕ) (i : ℕ) : Type 0 where
