@@ -1,4 +1,4 @@
--- What holds of every text, whatever rooms are lent. Reports and Evidenced, in proofs/, have a proof of each under the same name in small letters.
+-- What holds of every text, whatever rooms are lent. Theorems, in proofs/, has a proof of each under the same name in small letters.
 use mathlib.Core.List.{List, _++_}
 use Prim.Native.Nat.{ℕ, _≤_}
 use lib.ListN.{length}

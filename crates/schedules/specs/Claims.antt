@@ -81,13 +81,13 @@ module _ (P : Program) (H : Threads P) where
   abbrev pub OneFirst : Type 0
   OneFirst = (τ : List ℕ) → Clean P H τ → (x y : ℕ) → x < size → y < size → x ≢ y → (Precedes x y τ ⊎ Precedes y x τ) × ¬ (Precedes x y τ × Precedes y x τ)
 
-  -- (R1) With no reuse fault, an access runs after whatever else reaches it, in every complete schedule.
+  -- (A) With no reuse fault, an access runs after whatever else reaches it, in every complete schedule.
   abbrev pub Always : Type 0
   Always =
       (σ : List ℕ) → Settled σ → (x y : ℕ) → Reaches P (gens P H σ) x y → x ≢ y → y < size → registers y ≡ false
       → (τ : List ℕ) → Complete P H τ → Precedes x y τ
 
-  -- (R2) With no reuse fault, a command runs before whatever does not reach it, in some complete schedule.
+  -- (E) With no reuse fault, a command runs before whatever does not reach it, in some complete schedule.
   abbrev pub EitherFirst : Type 0
   EitherFirst =
       (σ : List ℕ) → Settled σ → (x y : ℕ) → x < size → y < size → ¬ Reaches P (gens P H σ) y x → (τ : List ℕ) × Complete P H τ × Precedes x y τ

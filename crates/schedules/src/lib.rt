@@ -10,8 +10,8 @@
 //   agreement    so all complete schedules end clean with the same generations exactly when one clean schedule has no reuse fault,
 //                and never when some complete schedule is not clean
 //   (F) one file two clean schedules of a program without a reuse fault have the same generations and the same happens-before
-//   (R1) always  without a reuse fault an access runs after all that reaches it, in every complete schedule
-//   (R2) either  and before anything that does not reach it, in some complete schedule
+//   (A)  always  without a reuse fault an access runs after all that reaches it, in every complete schedule
+//   (E)  either  and before anything that does not reach it, in some complete schedule
 //   one order    so, without a reuse fault, two different accesses stand in one order in all complete schedules exactly when one
 //                reaches the other
 //   decided      a reuse fault, and what reaches what, can be computed: the table `reach` tells
@@ -38,7 +38,7 @@
 //   Table     the table `reach` decides
 //   Cut       a clean log without what one command reaches
 //   Real      (C) over logs: such a log lets c₂ run while c₁ waits
-//   Ordered   (R1), (R2) over logs
+//   Ordered   (A), (E) over logs
 //   Threads   schedules of threads and logs of commands come to the same
 //   Completes completion: while a step is allowed, take it
 //   Decided   a reuse fault or none
