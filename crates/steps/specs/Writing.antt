@@ -2,10 +2,10 @@
 -- some commands.
 use mathlib.Core.Path.{_≡_}
 use mathlib.Core.Bool.{Bool, true, false, cond, _&&_}
-use mathlib.Core.List.{List, [], _∷_, _++_}
+use mathlib.Core.List.{List, [], _∷_}
 use Prim.Native.Nat.{ℕ, zero, suc}
 use lib.Dec.{ltb}
-use lib.ListN.{length, drop}
+use lib.ListN.{length}
 use Rattle.tables.specs.Over.{over}
 use Rattle.turns.specs.Turns.{goesFirst, lowestOr}
 use Rattle.steps.specs.declared.state.Replay.{Replay}
