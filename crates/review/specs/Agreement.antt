@@ -8,7 +8,7 @@ use lib.ListN.{length, getD, take}
 use Rattle.tables.specs.Rows.{rows}
 use Rattle.tables.specs.Over.{over}
 use Rattle.verdicts.specs.Verdicts.{tell, numbered}
-use Rattle.verdicts.specs.Numbers.{fills, isVerdict, settles, disagrees}
+use Rattle.verdicts.specs.Numbers.{hasPairs, fills, isVerdict, settles, disagrees}
 use Rattle.relation.specs.Bits.{Words}
 use Rattle.relation.specs.Table.{words}
 use Rattle.findings.specs.declared.finding.Finding.{Finding}
@@ -25,11 +25,11 @@ use Rattle.replay.specs.Schedules.{Complete, Agree, InOneOrder, Disagree}
 abbrev pub number : Finding → ℕ
 number r = numbered (r .verdict) .number
 
--- Demand 1: a verdict for every input. Unless it is 0, 10 or 11, the sheet is empty and the lent rooms keep every number they held; beyond
+-- Demand 1: a verdict for every input. Unless it is 10 or 11, the sheet is empty; unless it is 0, 10 or 11, the lent rooms keep every number they held; beyond
 -- what they are filled with they keep it always.
 pub record Safe (commands relation generations : List ℕ) (r : Finding) (relation′ generations′ : List ℕ) : Type 0 where
   pub verdict : isVerdict (number r) ≡ true
-  pub empty : fills (number r) ≡ false → r .sheet ≡ sheetOf []
+  pub empty : hasPairs (number r) ≡ false → r .sheet ≡ sheetOf []
   pub relation-kept : fills (number r) ≡ false → relation′ ≡ relation
   pub generations-kept : fills (number r) ≡ false → generations′ ≡ generations
   pub relation-beyond : (p : ℕ) → words (rows commands) ≤ p → getD relation′ p 0 ≡ getD relation p 0
