@@ -14,7 +14,7 @@ use Rattle.evidence.specs.Evidence.{Disputes, HasBefore, against, firstFirst, s
 use Rattle.exhibits.specs.Shown.{shownBy, Says}
 use Rattle.exhibits.specs.Exhibits.{exhibits}
 use Rattle.desk.specs.Conclusion.{ofText}
-use Rattle.desk.specs.Promise.{JudgesText, Possible}
+use Rattle.desk.specs.Promise.{JudgesText}
 use Rattle.report.specs.Report.{report}
 
 -- a report room for evidence has at least so many bytes: 192 for the report, and 1,600 for each of 32 schedules with the line above it

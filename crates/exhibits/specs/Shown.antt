@@ -3,19 +3,16 @@ use mathlib.Core.Path.{_≡_}
 use mathlib.Core.Logic.{_≢_}
 use mathlib.Core.Bool.{Bool, cond, not}
 use mathlib.Core.List.{List}
-use Prim.Native.Nat.{ℕ, _≤_, _<_}
+use Prim.Native.Nat.{ℕ, _<_}
 use lib.Dec.{eqb, ltb}
-use lib.ListN.{length}
 use Rattle.tables.specs.Lowest.{lowest}
 use Rattle.tables.specs.Rows.{rows}
-use Rattle.rules.specs.Rules.{Keeps}
 use Rattle.verdicts.specs.declared.Told.{Told}
 use Rattle.steps.specs.Ending.{judged}
 use Rattle.steps.specs.Going.{played, generation}
 use Rattle.replay.specs.Schedules.{Precedes}
 use Rattle.wording.specs.declared.Shown.{Shown}
 use Rattle.wording.specs.declared.Shown.the-variants.{First, Generation, Mismatch, Deadlock, LeftSet}
-use Rattle.exhibits.specs.declared.shown.End.{End}
 
 -- ---- another generation
 

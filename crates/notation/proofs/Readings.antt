@@ -29,7 +29,7 @@ use Rattle.notation.specs.Needs.{Rooms}
 use Rattle.grammar.specs.Tokens.{starts, sizeOf}
 use Rattle.notation.specs.Promise.{Within, GivesTables, RefusedAt, ByGrammar, Read}
 use Rattle.grammar.proofs.Lexes.{pos, most}
-use Rattle.grammar.proofs.Listings.{listing-found, listing-one}
+use Rattle.grammar.proofs.Listings.{listing-found}
 use Rattle.grammar.proofs.Grammars.{lexer, grammar}
 use Rattle.notation.proofs.Passes.{flat-long}
 

@@ -1,14 +1,12 @@
 -- The numbers that an answer room gets, from its first place on.
-use mathlib.Core.Path.{_≡_}
 use mathlib.Core.List.{List, [], _∷_, _++_}
-use Prim.Native.Nat.{ℕ, _/_, _%_, _^_, _≤_, _<_, min}
-use lib.ListN.{length, getD}
+use Prim.Native.Nat.{ℕ, _/_, _%_, _^_, min}
+use lib.ListN.{length}
 use Rattle.verdicts.specs.Verdicts.{tell, numbered}
 use Rattle.verdicts.specs.declared.Told.{Told}
 use Rattle.notation.specs.Reading.{answered, restAt}
 use Rattle.notation.specs.declared.reading.Reading.{Reading}
 use Rattle.replay.specs.declared.writer.Written.{Written}
-use Rattle.sheet.specs.Sheet.{mostKept, pair}
 use Rattle.sheet.specs.declared.Pair.{Pair}
 use Rattle.evidence.specs.declared.door.Evidence.{Evidence}
 use Rattle.runs.specs.declared.Course.{Course}

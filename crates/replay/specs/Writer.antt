@@ -1,17 +1,14 @@
 -- The schedules that are written: from the start, by a choice of who steps. Document 01's writer always lets the lowest allowed thread step; the one that shows a fault prefers what a command
 -- does not reach.
-use mathlib.Core.Path.{_≡_}
 use mathlib.Core.Bool.{Bool, not, _||_}
 use mathlib.Core.List.{List, [], _∷_}
-use Prim.Native.Nat.{ℕ, _<_}
+use Prim.Native.Nat.{ℕ}
 use lib.Dec.{eqb}
-use lib.ListN.{length}
 use Rattle.tables.specs.Rows.{rows}
 use Rattle.rules.specs.Rules.{checked}
 use Rattle.verdicts.specs.FirstTold.{orElse}
 use Rattle.verdicts.specs.declared.Told.{Told}
 use Rattle.rooms.specs.Short.{roomOf, firstShort}
-use Rattle.turns.specs.Turns.{goesFirst}
 use Rattle.steps.specs.declared.state.Replay.{Replay}
 use Rattle.steps.specs.State.{start}
 use Rattle.steps.specs.Ending.{lowestAllowed}

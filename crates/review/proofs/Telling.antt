@@ -1,5 +1,5 @@
 -- Whatever table tells what reaches what, the verdict and the pairs are the same: so demand 2 is shown, and used, by the table of Warshall's rounds. Assumes nothing.
-use mathlib.Core.Path.{_≡_, refl, sym, ap, _∙_}
+use mathlib.Core.Path.{_≡_, refl}
 use mathlib.Core.Bool.{Bool, true, false}
 use mathlib.Core.List.{List, []}
 use Prim.Native.Nat.{ℕ, _<_}
