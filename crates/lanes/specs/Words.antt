@@ -1,4 +1,4 @@
--- The lanes' masks and disable states as words: what a bit says, and what the rules of Table 2 make of the words.
+-- The lanes' masks and disable states as words: what a bit says, and what the rules of Table 2 make of the words (R69, R83).
 use mathlib.Core.Bool.{Bool, true, false, cond}
 use Prim.Native.Nat.{ℕ, zero, suc, _-_, _^_, min}
 use lib.Bits.{bitAnd, bitOr, bitXor}
@@ -60,11 +60,11 @@ leaving L mask = record { active = except (L .active) mask; broke = L .broke; re
 abbrev pub onlyActive : Lanes → (mask : ℕ) → Lanes
 onlyActive L mask = record { active = mask; broke = L .broke; returned = L .returned }
 
--- (assign): the highest lane below n in a mask, or 0
+-- (assign): the highest lane below n in a mask, or 0 (R69)
 unfoldable pub highestOf : (n mask : ℕ) → ℕ
 highestOf zero mask = 0
 highestOf (suc n) mask = cond (bitOf mask n) n (highestOf n mask)
 
--- the first n lanes of 32
+-- the first n lanes of 32 (R69); over 32 are 32 (R83)
 abbrev pub allOf : ℕ → ℕ
 allOf n = 2 ^ min n 32 - 1

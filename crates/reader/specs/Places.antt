@@ -1,9 +1,9 @@
--- A place in a text: the rest of the text from there on, and where that stands in memory.
+-- A place in a text: the rest of the text from there on, and where that stands in memory (R49).
 use mathlib.Core.List.{List}
 use Prim.Native.Nat.{ℕ, _+_, min}
 use lib.ListN.{length, drop}
 
--- a place past the text is the text's end
+-- a place past the text is the text's end (R49)
 abbrev pub placeIn : List ℕ → ℕ → ℕ
 placeIn text at = min at (length text)
 
