@@ -18,6 +18,7 @@ AnswersBeforeZero room r = (r ≡ beforeZero room) × Counts r room
 abbrev pub zeros : ℕ → List ℕ
 zeros k = replicate k 0
 
+-- the bytes before the first zero (R57)
 abbrev pub printed : List ℕ → List ℕ
 printed room = take (beforeZero room) room
 

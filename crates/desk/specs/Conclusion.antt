@@ -15,7 +15,7 @@ use Rattle.review.specs.Judge.{verdictOf, generationsBy, reaches}
 use Rattle.sheet.specs.declared.Pair.{Pair}
 use Rattle.report.specs.declared.Conclusion.{Conclusion}
 
--- a refusal, or a verdict without a fault's pairs: the sheet is empty with total 0 (R36)
+-- a refusal, or a verdict without a fault's pairs: the sheet is empty with total 0 (R36, R53)
 abbrev pub bare : Told → Conclusion
 bare t = record { told = t; sheet = sheetOf [] }
 
@@ -27,7 +27,7 @@ module _ (commands lengths : List ℕ) where
   abbrev pub pairsOf : List Pair
   pairsOf = faultPairs commands lengths (generationsBy commands lengths (schedule commands lengths)) (reaches commands lengths (schedule commands lengths))
 
-  -- what is told, and the sheet, which is empty unless rooms are filled (R36)
+  -- what is told, and the sheet, which is empty unless rooms are filled (R36, R52)
   unfoldable pub ofTables : Conclusion
   ofTables = cond (fills (toldOf .number)) (record { told = toldOf; sheet = sheetOf pairsOf }) (bare toldOf)
 
@@ -35,6 +35,6 @@ module _ (commands lengths : List ℕ) where
 abbrev pub readAs : List ℕ → Told
 readAs text = reading text (mostRows * 3) mostThreads .told
 
--- A refused reading is reported like a verdict, with total 0 and no pairs (R53).
+-- What the review of a text tells (R52). A refused reading is reported like a verdict, with total 0 and no pairs (R53).
 unfoldable pub ofText : List ℕ → Conclusion
 ofText text = cond (eqb (readAs text .number) 0) (ofTables (rowNumbers text) (threadLengths text)) (bare (readAs text))

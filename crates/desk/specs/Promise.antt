@@ -1,4 +1,4 @@
--- What the text review promises (D3, R52 to R56).
+-- What the text review promises (D1 to D3, R52 to R56).
 use mathlib.Core.Path.{_≡_}
 use mathlib.Core.Logic.{_⊎_, _↔_}
 use mathlib.Core.Bool.{true}
@@ -44,7 +44,7 @@ pub record JudgesText (text : List ℕ) (n : ℕ) : Type 0 where
   pub disagreement : disagrees n ≡ true → (x : Listing) × Reviewable text x × Disagree (numbers x) (listingLengths x)
 
 -- Which numbers there are, and what 3, 12 and 13 say of the text. Its rooms are full ones, so it never answers 4, and 13 only past the limits; its tables are of the
--- reader's making and its schedule of the writer's, so 1, 2, 5 and 6 don't come either (R53).
+-- reader's making and its schedule of the writer's, so 1, 2, 5 and 6 don't come either (D1, R53).
 pub record Possible (text : List ℕ) (t : Told) : Type 0 where
   pub some : (isComplete (t .number) ≡ true) ⊎ (t .number ≡ 3) ⊎ (isUnread (t .number) ≡ true)
   pub broken : t .number ≡ 3 → (x : Listing) × Denotes text x × (t ≡ checked (numbers x) (listingLengths x))
@@ -53,7 +53,7 @@ pub record Possible (text : List ℕ) (t : Told) : Type 0 where
       → (mostBytes < length text)
       ⊎ ((x : Listing) × Denotes text x × ((mostRows < length (allCommands (threads x))) ⊎ (mostThreads < length (threads x))))
 
--- The contract of `review_text`: n is the answer, and the report room held `room` and then holds `room′` (R52).
+-- The contract of `review_text`: n is the answer, and the report room held `room` and then holds `room′` (D1, D2, R52).
 pub record TextReviewed (text room room′ : List ℕ) (n : ℕ) : Type 0 where
   -- 14: a short report room, tested before all else, room untouched (R54)
   pub refuses : length room < leastRoom → (n ≡ 14) × (room′ ≡ room)

@@ -61,7 +61,7 @@ pub record Admissible (commands lengths relation generations room : List ℕ) : 
   pub admitted : reviewRefusal commands lengths (length relation) (length generations) .number ≡ 0
   pub fits : evidenceRoom (rows commands) ≤ length room
 
--- Nothing was done (D1).
+-- Nothing was done (D1, R58).
 pub record Untouched (relation generations room : List ℕ) (r : Evidence) (relation′ generations′ room′ : List ℕ) : Type 0 where
   pub sheet : r .finding .sheet ≡ sheetOf []
   pub entries : r .entries ≡ 0

@@ -1,4 +1,4 @@
--- What evidence is, over the replay's own definitions, and which schedules are written (R39, R59, R60, R62).
+-- What evidence is, over the replay's own definitions, and which schedules are written (R39, R59 to R62).
 use mathlib.Core.Path.{_≡_}
 use mathlib.Core.Logic.{_⊎_, _≢_}
 use mathlib.Core.Bool.{Bool, true, cond}
@@ -48,7 +48,7 @@ module _ (commands lengths : List ℕ) where
     bothWays [] = []
     bothWays (p ∷ ps) = firstFirst p ++ (secondFirst p ++ bothWays ps)
 
--- All that is written for a verdict's number and a sheet: of the first reuse fault for 10 (R59), of each race kept for 11 (R60). Other verdicts write nothing (R61).
+-- All that is written for a verdict's number and a sheet: of the first reuse fault for 10 (R59, R62), of each race kept for 11 (R60, R62). Other verdicts write nothing (R61).
 unfoldable pub evidenceOf : (commands lengths : List ℕ) → (ℕ → ℕ → Bool) → ℕ → Sheet → List ℕ
 evidenceOf commands lengths ρ n s =
     cond (eqb n 10) (against commands lengths ρ (firstKept s)) (cond (eqb n 11) (bothWays commands lengths ρ (keptPairs s)) [])

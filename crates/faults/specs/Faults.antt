@@ -1,4 +1,4 @@
--- Reuse faults and races, over generations g and a table ρ of what reaches what (R29 to R32).
+-- Reuse faults and races, over generations g and a table ρ of what reaches what (R4, R29 to R32).
 use mathlib.Core.Bool.{Bool, cond, not, _&&_, _||_}
 use mathlib.Core.List.{List, [], _∷_, _++_}
 use Prim.Native.Nat.{ℕ, zero, suc, _+_, _-_}
@@ -17,7 +17,7 @@ succeeds commands g c₁ c₂ = registers commands c₁ && (registers commands c
 unfoldable pub reuse : List ℕ → List ℕ → (ℕ → ℕ) → (ℕ → ℕ → Bool) → ℕ → ℕ → Bool
 reuse commands lengths g ρ c₁ c₂ = succeeds commands g c₁ c₂ && (isFirst lengths c₂ || not (ρ c₁ (c₂ - 1)))
 
--- Two accesses conflict when they have the same address and at least one is a write (R31).
+-- Two accesses conflict when they have the same address and at least one is a write (R4, R31).
 unfoldable pub conflict : List ℕ → ℕ → ℕ → Bool
 conflict commands x y =
     ltb (kind commands x) arrive && (ltb (kind commands y) arrive
@@ -30,12 +30,12 @@ race commands lengths ρ x y =
 
 -- ---- the search: by an outer number i, then by an inner number j
 
--- the pairs of one outer number: those of the inner numbers below n that a test finds
+-- the pairs of one outer number: those of the inner numbers below n that a test finds (R30, R32)
 unfoldable pub alongRow : (ℕ → Bool) → (ℕ → Pair) → ℕ → List Pair
 alongRow found to zero = []
 alongRow found to (suc j) = alongRow found to j ++ cond (found j) (to j ∷ []) []
 
--- the pairs of the outer numbers below n, with inner numbers below m
+-- the pairs of the outer numbers below n, with inner numbers below m (R30, R32)
 unfoldable pub allRows : (ℕ → ℕ → Bool) → (ℕ → ℕ → Pair) → ℕ → ℕ → List Pair
 allRows found to m zero = []
 allRows found to m (suc i) = allRows found to m i ++ alongRow (found i) (to i) m

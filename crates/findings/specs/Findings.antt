@@ -30,11 +30,11 @@ orPairs (p ∷ ps) qs = p ∷ ps
 
 -- 10: reuse fault. 11: race, looked for only when there is no reuse fault (R33).
 module _ (commands lengths : List ℕ) (g : ℕ → ℕ) (ρ : ℕ → ℕ → Bool) where
-  -- what is told of them, with its place (R37)
+  -- what is told of them, with its place (R33, R37)
   abbrev pub faultTold : Told
   faultTold = firstPair 10 (faults commands lengths g ρ Reuse) (firstPair 11 (faults commands lengths g ρ Race) (tell 0 0 0))
 
-  -- the pairs, of which there are as many as the total (R34)
+  -- the pairs, of which there are as many as the total (R33, R34)
   abbrev pub faultPairs : List Pair
   faultPairs = orPairs (faults commands lengths g ρ Reuse) (faults commands lengths g ρ Race)
 

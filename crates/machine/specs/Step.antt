@@ -68,6 +68,7 @@ module _ (s e : List ℕ) where
   -- (inact), or the underlined (while)
   advance (again i ∷ W) L μ = cond (eqb (L .active) 0) (record { stack = fromToken W; lanes = L; cells = μ }) (repeating i (again i ∷ W) L μ)
 
+  -- the same of a warp (R69)
   abbrev pub nextWarp : Warp → Warp
   nextWarp w = advance (w .stack) (w .lanes) (w .cells)
 

@@ -1,4 +1,4 @@
--- What a reading answers, and what the lent tables then hold (R42, R46 to R51).
+-- What a reading answers, and what the lent tables then hold (R41, R42, R46 to R51).
 use mathlib.Core.Bool.{Bool, cond, _||_}
 use mathlib.Core.List.{List}
 use mathlib.Core.Option.{Option, none, some}
@@ -50,7 +50,7 @@ pub record Answer : Type 0 where
 abbrev pub answer : Told → ℕ → ℕ → Answer
 answer d m t = record { told = d; commands = m; threads = t }
 
--- those of each case: 12, 13, and what is accepted (R42)
+-- those of each case: 12, 13, and what is accepted (R41, R42, R51)
 abbrev pub answered : Reading → Answer
 answered (Unfit p) = answer (tell 12 p 0) 0 0
 answered Over = answer (tell 13 0 0) 0 0

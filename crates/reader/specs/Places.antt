@@ -10,6 +10,6 @@ placeIn text at = min at (length text)
 abbrev pub restIn : List ℕ → ℕ → List ℕ
 restIn text at = drop (placeIn text at) text
 
--- n bytes on from a place in memory, which is a block and an offset in it
+-- n bytes on from a place in memory, which is a block and an offset in it (R49)
 abbrev pub ahead : ℕ × ℕ → ℕ → ℕ × ℕ
 ahead x n = (x .0, n + x .1)

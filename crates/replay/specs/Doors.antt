@@ -1,4 +1,4 @@
--- What the doors promise: the judge of a schedule (R81), and the two schedule writers (D1, R25).
+-- What the doors promise: the judge of a schedule (R81), and the two schedule writers (D1, R24, R25, R62).
 use mathlib.Core.Path.{_≡_}
 use mathlib.Core.List.{List}
 use Prim.Native.Nat.{ℕ}
@@ -26,10 +26,10 @@ pub record WritesBy (σ commands lengths before after : List ℕ) (r : Written) 
   pub wrote : numbered (r .verdict) .number ≡ 0 → FilledBy σ before after (r .length)
   pub complete : numbered (r .verdict) .number ≡ 0 → Complete commands lengths σ
 
--- the lowest allowed thread steps (R24)
+-- the lowest allowed thread steps (R24, R25)
 abbrev pub WritesSchedule : List ℕ → List ℕ → List ℕ → List ℕ → Written → Type 0
 WritesSchedule commands lengths = WritesBy (schedule commands lengths) commands lengths
 
--- d and what c does not reach go first (R62)
+-- d and what c does not reach go first (R25, R62)
 abbrev pub WritesApart : List ℕ → List ℕ → List ℕ → (c d : ℕ) → List ℕ → List ℕ → Written → Type 0
 WritesApart commands lengths relation c d = WritesBy (apartSchedule commands lengths (related relation (rows commands)) c d) commands lengths

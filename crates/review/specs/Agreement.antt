@@ -36,7 +36,7 @@ pub record Safe (commands relation generations : List ℕ) (r : Finding) (relati
   pub generations-beyond : (p : ℕ) → rows commands ≤ p → getD generations′ p 0 ≡ getD generations p 0
 
 -- The verdict with its place, the pairs, their order and their total, every bit of happens-before, and each generation are those
--- of the definitions (D2), for every table that tells what reaches what; there is one (`RoundsTell`). The rooms are filled with them (R40).
+-- of the definitions (D2), for every table that tells what reaches what; there is one (`RoundsTell`). Sheet and rooms are filled with them (R36, R40).
 pub record Exact (commands lengths schedule relation generations : List ℕ) (r : Finding) (relation′ generations′ : List ℕ) : Type 0 where
   pub verdict : (ρ : ℕ → ℕ → Bool) → TellsReach commands lengths schedule ρ
       → numbered (r .verdict) ≡ verdictBy commands lengths schedule ρ (length relation) (length generations)
@@ -45,7 +45,7 @@ pub record Exact (commands lengths schedule relation generations : List ℕ) (r 
   pub relation-holds : fills (number r) ≡ true → Reached commands lengths (generationsBy commands lengths schedule) relation relation′
   pub generations-hold : fills (number r) ≡ true → generations′ ≡ over (take (rows commands) (played commands lengths schedule .generations)) generations
 
--- The table of Warshall's rounds tells what reaches what (R26).
+-- The table of Warshall's rounds tells what reaches what (D2, R26).
 abbrev pub RoundsTell : Type 0
 RoundsTell = (commands lengths schedule : List ℕ) → TellsReach commands lengths schedule (reaches commands lengths schedule)
 

@@ -1,4 +1,4 @@
--- The verdict, in the order tested (R26, R37).
+-- The verdict, in the order tested (D2, R26, R37).
 use mathlib.Core.Path.{_≡_}
 use mathlib.Core.Logic.{_↔_}
 use mathlib.Core.Bool.{Bool, true}
@@ -19,11 +19,11 @@ module _ (commands lengths schedule : List ℕ) where
   abbrev pub generationsBy : ℕ → ℕ
   generationsBy = generation (played commands lengths schedule)
 
-  -- A table of commands tells what reaches what over these generations: exactly what stands in the least relation (R26).
+  -- A table of commands tells what reaches what over these generations: exactly what stands in the least relation (D2, R26).
   pub record TellsReach (ρ : ℕ → ℕ → Bool) : Type 0 where
     pub exactly : (x y : ℕ) → x < rows commands → y < rows commands → (ρ x y ≡ true) ↔ Reaches (program commands lengths) generationsBy x y
 
-  -- The verdict, of tables, a schedule, a table of what reaches what, and the lengths of the two rooms (R37).
+  -- The verdict, of tables, a schedule, a table of what reaches what, and the lengths of the two rooms (D2, R37).
   abbrev pub verdictBy : (ℕ → ℕ → Bool) → (relationLength generationLength : ℕ) → Told
   verdictBy ρ relationLength generationLength =
       orElse (reviewRefusal commands lengths relationLength generationLength)

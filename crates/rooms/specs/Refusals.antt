@@ -14,7 +14,7 @@ use Rattle.rooms.specs.Short.{roomOf, firstShort}
 abbrev pub reviewRooms : (m relationLength generationLength : ℕ) → List (List ℕ)
 reviewRooms m relationLength generationLength = roomOf 0 (words m) relationLength ∷ roomOf 1 m generationLength ∷ []
 
--- 1 to 4, of tables and the lengths of the two rooms (R37)
+-- 1 to 4, of tables and the lengths of the two rooms (R37, R39)
 unfoldable pub reviewRefusal : List ℕ → List ℕ → (relationLength generationLength : ℕ) → Told
 reviewRefusal commands lengths relationLength generationLength = orElse (checked commands lengths) (firstShort (reviewRooms (rows commands) relationLength generationLength))
 

@@ -32,7 +32,7 @@ sheetOf ps = record { pairs = firsts mostKept ps; total = length ps }
 abbrev pub keptPairs : Sheet → List Pair
 keptPairs s = take (min (s .total) mostKept) (s .pairs)
 
--- the first of them
+-- the first of them (R35)
 abbrev pub firstKept : Sheet → Pair
 firstKept s = getD (s .pairs) 0 (pair 0 0)
 

@@ -9,7 +9,7 @@ use Rattle.tables.specs.Lowest.{lowest}
 
 -- ---- who waits
 
--- thread t is blocked (R19)
+-- thread t is blocked (R19); a number past the limit is no thread (R80)
 unfoldable pub held : List ℕ → ℕ → Bool
 held waits t = ltb t mostThreads && not (eqb (getD waits t 0) 0)
 
@@ -26,7 +26,7 @@ settled t wait frees waits = released frees (set waits t wait)
 
 -- ---- who may step
 
--- thread t exists, and has a command left after n of them (R16)
+-- thread t exists, which no number past the limit does (R80), and has a command left after n of them (R16)
 unfoldable pub hasLeft : List ℕ → (t n : ℕ) → Bool
 hasLeft lengths t n = ltb t mostThreads && (ltb t (length lengths) && ltb n (getD lengths t 0))
 
