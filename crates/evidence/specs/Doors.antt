@@ -21,7 +21,7 @@ use Rattle.review.specs.Agreement.{number, Reviewed}
 use Rattle.evidence.specs.declared.door.Evidence.{Evidence}
 use Rattle.evidence.specs.Evidence.{Disputes, HasBefore, evidenceRoom, evidenceOf}
 
--- the rooms of a review with evidence, the lowest digit first: those of a review, and the evidence room (4) (R39)
+-- the rooms of a review with evidence, the lowest digit first: those of a review, and 4 the evidence room (R39)
 abbrev pub evidenceRooms : (m relationLength generationLength given : ℕ) → List (List ℕ)
 evidenceRooms m relationLength generationLength given = reviewRooms m relationLength generationLength ++ roomOf 4 (evidenceRoom m) given ∷ []
 

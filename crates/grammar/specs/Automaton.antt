@@ -49,7 +49,7 @@ atParting Semi = Refuse
 atParting Bars = On Word
 atParting Misfit = Refuse
 
--- what a token does, where a thread or a command has come so far (R44)
+-- what a token does, by what is expected (R44)
 unfoldable pub tokenMoves : State → Token → TokenMove
 tokenMoves Word t = atWord t
 tokenMoves (Address k) t = atNumber (λ g. Row k g 0) t

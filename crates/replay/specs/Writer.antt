@@ -37,7 +37,7 @@ apartSchedule commands lengths ρ c d = scheduleBy (pickedFirst (apartFrom ρ c 
 
 -- ---- refusals
 
--- the room of a schedule writer, which is lent no other: the schedule room (2) (R39)
+-- the room of a schedule writer, which is lent no other: 2 the schedule room (R39)
 abbrev pub writerRooms : (m given : ℕ) → List (List ℕ)
 writerRooms m given = roomOf 2 m given ∷ []
 

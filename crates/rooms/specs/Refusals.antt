@@ -10,7 +10,7 @@ use Rattle.verdicts.specs.declared.Told.{Told}
 use Rattle.relation.specs.Table.{words}
 use Rattle.rooms.specs.Short.{roomOf, firstShort}
 
--- the rooms of a review, the lowest digit first: the relation room (0) and the generation room (1) (R39)
+-- the rooms of a review, the lowest digit first: 0 the relation room, and 1 the generation room (R39)
 abbrev pub reviewRooms : (m relationLength generationLength : ℕ) → List (List ℕ)
 reviewRooms m relationLength generationLength = roomOf 0 (words m) relationLength ∷ roomOf 1 m generationLength ∷ []
 

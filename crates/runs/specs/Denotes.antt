@@ -1,4 +1,4 @@
--- What a kernel's tables and the code's warp are in document 001's words (R66).
+-- What a kernel's tables and the code's warp are in document 001's words (R66, R69).
 use mathlib.Core.Bool.{Bool, cond}
 use mathlib.Core.List.{List, [], _∷_}
 use Prim.Native.Nat.{ℕ}
@@ -43,6 +43,6 @@ module _ (s e : List ℕ) where
   items [] = []
   items (x ∷ W) = itemOf x ∷ items W
 
-  -- W, Θ, Δ, μ (R69)
+  -- a warp as W, Θ, Δ, μ (R69)
   abbrev pub configOf : Warp → Config
   configOf w = record { stack = items (w .stack); active = bitOf (w .lanes .active); off = stateOf (w .lanes); mem = w .cells }

@@ -17,7 +17,7 @@ digit = 2
 abbrev pub other : ℕ
 other = 3
 
--- spaces (32) and newlines (10); lower-case letters (97 to 122); digits (48 to 57) (R43)
+-- blanks are spaces, 32, and newlines, 10; letters are lower-case ones, 97 to 122; digits are 48 to 57 (R43)
 unfoldable pub classOf : ℕ → ℕ
 classOf b =
     cond (eqb b 32 || eqb b 10) blank (cond (leb 97 b && leb b 122) letter (cond (leb 48 b && leb b 57) digit other))

@@ -7,11 +7,11 @@ use lib.Dec.{ltb}
 use lib.ListN.{set}
 use Rattle.warps.specs.Language.{Expr, Stm, skip, assign, branch, while, again, break, invoke, return, Bodies, Mem, eval, test}
 
--- t (R69)
+-- t: the type of a token (R69)
 pub data TokenType : Type 0 where
   div sync brk call : TokenType
 
--- δ: 0, b or r (R69)
+-- δ: 0, b or r, for each lane (R69)
 pub data DisableState : Type 0 where
   on broke returned : DisableState
 
@@ -33,7 +33,7 @@ unfoldable pub onto : List Stm → List Item → List Item
 onto [] W = W
 onto (s ∷ S) W = stm s ∷ onto S W
 
--- W, Θ, Δ, μ (R69)
+-- W, Θ, Δ, μ: stack, active mask, disable states, memory (R69)
 pub record Config : Type 0 where
   pub stack : List Item
   pub active : Mask
