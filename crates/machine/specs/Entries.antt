@@ -1,7 +1,7 @@
 -- The stack of a warp in a room of numbers, its top last (R72, R83).
 use mathlib.Core.Bool.{cond}
 use mathlib.Core.List.{List, [], _∷_}
-use Prim.Native.Nat.{ℕ, zero, suc, _+_, _-_, _*_, _/_, _%_, _^_}
+use Prim.Native.Nat.{ℕ, zero, suc, _-_, _/_, _%_, _^_}
 use lib.Dec.{eqb, ltb}
 use lib.ListN.{getD}
 use Rattle.kernels.specs.Rows.{statements, listOf}
@@ -26,9 +26,6 @@ againFrom = 256
 
 abbrev pub tokensFrom : ℕ
 tokensFrom = 512
-
-abbrev pub tokenNumber : (kind mask : ℕ) → ℕ
-tokenNumber kind mask = tokensFrom + 4 * mask + kind
 
 unfoldable pub entryOf : ℕ → Entry
 entryOf e = cond (ltb e againFrom) (row e) (cond (ltb e tokensFrom) (again (e - againFrom)) (token ((e - tokensFrom) % 4) ((e - tokensFrom) / 4 % 2 ^ 32)))

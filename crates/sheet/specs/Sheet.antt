@@ -43,8 +43,3 @@ counted total = min (total + 1) mostCounted
 -- One pair more. Sixteen pairs, then only the total grows (R35).
 unfoldable pub added : Sheet → Pair → Sheet
 added s p = record { pairs = cond (ltb (s .total) mostKept) (set (s .pairs) (s .total) p) (s .pairs); total = counted (s .total) }
-
--- a list of pairs more, one after the other
-unfoldable pub addAll : Sheet → List Pair → Sheet
-addAll s [] = s
-addAll s (p ∷ ps) = addAll (added s p) ps

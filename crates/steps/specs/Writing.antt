@@ -2,11 +2,10 @@
 -- some commands (R61, R62).
 use mathlib.Core.Path.{_≡_}
 use mathlib.Core.Bool.{Bool, true, false, cond, _&&_}
-use mathlib.Core.List.{List, [], _∷_, _++_}
+use mathlib.Core.List.{List, [], _∷_}
 use Prim.Native.Nat.{ℕ, zero, suc}
 use lib.Dec.{ltb}
-use lib.ListN.{length, drop}
-use Rattle.tables.specs.Lowest.{lowest}
+use lib.ListN.{length}
 use Rattle.tables.specs.Over.{over}
 use Rattle.turns.specs.Turns.{goesFirst, lowestOr}
 use Rattle.steps.specs.declared.state.Replay.{Replay}
@@ -32,10 +31,6 @@ stepping choose commands lengths (suc n) s =
 -- thread t may step, and its next command goes first (R62)
 unfoldable pub picked : (ℕ → Bool) → List ℕ → Replay → ℕ → Bool
 picked early lengths s t = allowed lengths s t && early (command lengths s t)
-
--- the lowest such thread, or the number of threads
-abbrev pub lowestPicked : (ℕ → Bool) → List ℕ → Replay → ℕ
-lowestPicked early lengths s = lowest (picked early lengths s) (length lengths)
 
 -- Where there is such a thread, the lowest of them steps, and else the lowest allowed thread (R62).
 unfoldable pub pickedFirst : (ℕ → Bool) → List ℕ → Replay → ℕ

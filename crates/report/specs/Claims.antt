@@ -1,4 +1,4 @@
--- What can be told from a report (R56).
+-- What is proved of reports: what can be told from one (R56). Retold, in proofs/, has it, under the name `told-again`.
 use mathlib.Core.Path.{_≡_}
 use mathlib.Core.List.{List, _++_}
 use Prim.Native.Nat.{ℕ}
