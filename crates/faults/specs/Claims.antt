@@ -35,7 +35,7 @@ module _ (commands lengths : List ℕ) (g : ℕ → ℕ) where
       ↔ ((x < y) × (conflict commands x y ≡ true) × (threadOf lengths x ≢ threadOf lengths y) × (¬ Reaches (program commands lengths) g x y)
       × (¬ Reaches (program commands lengths) g y x))
 
--- By the heads of the rows, what `is_fault` answers is whether there is a fault.
+-- By the heads of the rows, what `is_fault` answers is whether there is a fault (R29, R32).
 abbrev pub IsFaulty : Type 0
 IsFaulty =
     (commands lengths heads : List ℕ) → Headed lengths heads (rows commands) → (generations relation : List ℕ)

@@ -106,7 +106,7 @@ expressionFails i kind x y = ltb lessExpr kind || (eqb kind cellExpr && leb cell
 unfoldable pub badExpression : List ℕ → (i : ℕ) → Bool
 badExpression e i = expressionFails i (exprKind e i) (exprX e i) (exprY e i)
 
--- some expression is
+-- some expression is (R70)
 abbrev pub someBadExpression : List ℕ → Bool
 someBadExpression e = ltb (lowest (badExpression e) (expressions e)) (expressions e)
 
@@ -122,7 +122,7 @@ firstStrayBreak s = lowest (strayBreak s) (statements s)
 
 -- ---- both refusals, in the order tested
 
--- so many numbers, in rows of so many: the rows are not whole, or too many
+-- so many numbers, in rows of so many: the rows are not whole, or too many (R70)
 unfoldable pub badLength : (row most numbers : ℕ) → Bool
 badLength row most numbers = not (eqb (numbers % row) 0) || ltb most (numbers / row)
 

@@ -27,27 +27,27 @@ zOf s i = getD s (5 * i + 4) 0
 abbrev pub skipKind : ℕ
 skipKind = 0
 
--- 1 assignment: cell x becomes the value of expression y
+-- 1 assignment: cell x becomes the value of expression y (R66)
 abbrev pub assignKind : ℕ
 assignKind = 1
 
--- 2 if: by expression x, list y or list z
+-- 2 if: by expression x, list y or list z (R66)
 abbrev pub ifKind : ℕ
 ifKind = 2
 
--- 3 while: list y, as long as expression x holds
+-- 3 while: list y, as long as expression x holds (R66)
 abbrev pub whileKind : ℕ
 whileKind = 3
 
--- 4 break
+-- 4 break (R66)
 abbrev pub breakKind : ℕ
 breakKind = 4
 
--- 5 call: the function is list x
+-- 5 call: the function is list x (R66)
 abbrev pub callKind : ℕ
 callKind = 5
 
--- 6 return
+-- 6 return (R66)
 abbrev pub returnKind : ℕ
 returnKind = 6
 
@@ -69,15 +69,15 @@ exprY e i = getD e (3 * i + 2) 0
 abbrev pub numberExpr : ℕ
 numberExpr = 0
 
--- 1 cell x
+-- 1 cell x (R67)
 abbrev pub cellExpr : ℕ
 cellExpr = 1
 
--- 2 the lane number
+-- 2 the lane number (R67)
 abbrev pub laneExpr : ℕ
 laneExpr = 2
 
--- 3 the sum, 4 the difference and 5 the unsigned less-than of the values of rows x and y
+-- 3 the sum, 4 the difference and 5 the unsigned less-than of the values of rows x and y (R67)
 abbrev pub sumExpr : ℕ
 sumExpr = 3
 

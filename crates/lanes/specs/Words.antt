@@ -37,26 +37,26 @@ tokenType kind = cond (eqb kind syncToken) sync (cond (eqb kind divToken) div (c
 abbrev pub except : ℕ → ℕ → ℕ
 except a b = bitXor a (bitAnd a b)
 
--- (token): a brk clears its lanes' b, a call their r; then those of its mask are active that are not disabled
+-- (token): a brk clears its lanes' b, a call their r; then those of its mask are active that are not disabled (R69)
 abbrev pub wokenBy : Lanes → (kind mask : ℕ) → Lanes
 wokenBy L kind mask =
     let b = cond (eqb kind brkToken) (except (L .broke) mask) (L .broke) in
     let r = cond (ltb brkToken kind) (except (L .returned) mask) (L .returned) in
     record { active = except (except mask b) r; broke = b; returned = r }
 
--- (break): nobody is active, and those who were have b
+-- (break): nobody is active, and those who were have b (R69)
 abbrev pub brokenBy : Lanes → Lanes
 brokenBy L = record { active = 0; broke = bitOr (L .broke) (L .active); returned = L .returned }
 
--- (return): nobody is active, and those who were have r
+-- (return): nobody is active, and those who were have r (R69)
 abbrev pub returnedBy : Lanes → Lanes
 returnedBy L = record { active = 0; broke = L .broke; returned = bitOr (L .returned) (L .active) }
 
--- (if): the active lanes but those in a mask
+-- (if): the active lanes but those in a mask (R69)
 abbrev pub leaving : Lanes → (mask : ℕ) → Lanes
 leaving L mask = record { active = except (L .active) mask; broke = L .broke; returned = L .returned }
 
--- (while): these lanes are active
+-- (while): these lanes are active (R69)
 abbrev pub onlyActive : Lanes → (mask : ℕ) → Lanes
 onlyActive L mask = record { active = mask; broke = L .broke; returned = L .returned }
 

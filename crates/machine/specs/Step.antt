@@ -25,7 +25,7 @@ module _ (s e : List ℕ) where
   abbrev pub actOf : Lanes → Mem → (x : ℕ) → ℕ
   actOf L μ x = acting (L .active) (expression e x) μ 32
 
-  -- (if), of row i over W
+  -- (if), of row i over W (R69)
   abbrev pub parted : (i : ℕ) → List Entry → Lanes → Mem → Warp
   parted i W L μ =
       record {
@@ -34,11 +34,11 @@ module _ (s e : List ℕ) where
         cells = μ;
       }
 
-  -- (while)
+  -- (while) (R69)
   abbrev pub looping : (i : ℕ) → List Entry → Lanes → Mem → Warp
   looping i W L μ = record { stack = listOver s (yOf s i) (again i ∷ token brkToken (L .active) ∷ W); lanes = onlyActive L (actOf L μ (xOf s i)); cells = μ }
 
-  -- the underlined (while), which lies on W
+  -- the underlined (while), which lies on W (R69)
   abbrev pub repeating : (i : ℕ) → List Entry → Lanes → Mem → Warp
   repeating i W L μ = record { stack = listOver s (yOf s i) W; lanes = onlyActive L (actOf L μ (xOf s i)); cells = μ }
 

@@ -22,7 +22,7 @@ answerRoom = 36
 abbrev pub largest : ℕ
 largest = 4294967295
 
--- two places, and two numbers more
+-- two places, and two numbers more (R84)
 abbrev pub toldNumbers : Told → ℕ → ℕ → List ℕ
 toldNumbers t a b = t .place ∷ t .also ∷ a ∷ b ∷ []
 

@@ -56,6 +56,7 @@ pub record KernelTold : Type 0 where
   pub answer : Course
   pub cells : Mem
 
+-- a refused kernel: no step, and the cells as they were (R71, R72)
 abbrev pub tellRefusal : (number place : ℕ) → Mem → KernelTold
 tellRefusal number place μ = record { answer = record { number = number; place = place; ending = 0; taken = 0 }; cells = μ }
 

@@ -35,7 +35,7 @@ fills n = eqb n 0 || hasPairs n
 abbrev pub isVerdict : ℕ → Bool
 isVerdict n = isRefusal n || isEnding n || hasPairs n
 
--- 0 and 7 to 11: what a legal complete schedule gets, of tables and rooms that pass.
+-- 0 and 7 to 11: what a legal complete schedule gets, of tables and rooms that pass (R37).
 abbrev pub isComplete : ℕ → Bool
 isComplete n = endsUnclean n || fills n
 
