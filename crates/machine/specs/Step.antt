@@ -34,7 +34,7 @@ module _ (s e : List ℕ) where
         cells = μ;
       }
 
-  -- (while) (R69)
+  -- (while), of row i over W (R69)
   abbrev pub looping : (i : ℕ) → List Entry → Lanes → Mem → Warp
   looping i W L μ = record { stack = listOver s (yOf s i) (again i ∷ token brkToken (L .active) ∷ W); lanes = onlyActive L (actOf L μ (xOf s i)); cells = μ }
 
