@@ -8,7 +8,7 @@ use lib.ListN.{length, getD, take}
 use Rattle.tables.specs.Rows.{rows}
 use Rattle.tables.specs.Over.{over}
 use Rattle.verdicts.specs.Verdicts.{tell, numbered}
-use Rattle.verdicts.specs.Numbers.{fills, isVerdict, settles, disagrees}
+use Rattle.verdicts.specs.Numbers.{hasPairs, fills, isVerdict, settles, disagrees}
 use Rattle.relation.specs.Bits.{Words}
 use Rattle.relation.specs.Table.{words}
 use Rattle.findings.specs.declared.finding.Finding.{Finding}
@@ -25,18 +25,18 @@ use Rattle.replay.specs.Schedules.{Complete, Agree, InOneOrder, Disagree}
 abbrev pub number : Finding → ℕ
 number r = numbered (r .verdict) .number
 
--- A verdict for every input (D1). Unless it is 0, 10 or 11, the sheet is empty (R36) and the lent rooms keep every number they held (R40); beyond
+-- A verdict for every input (D1). Unless it is 10 or 11, the sheet is empty (R36); unless it is 0, 10 or 11, the lent rooms keep every number they held (R40); beyond
 -- what they are filled with they keep it always.
 pub record Safe (commands relation generations : List ℕ) (r : Finding) (relation′ generations′ : List ℕ) : Type 0 where
   pub verdict : isVerdict (number r) ≡ true
-  pub empty : fills (number r) ≡ false → r .sheet ≡ sheetOf []
+  pub empty : hasPairs (number r) ≡ false → r .sheet ≡ sheetOf []
   pub relation-kept : fills (number r) ≡ false → relation′ ≡ relation
   pub generations-kept : fills (number r) ≡ false → generations′ ≡ generations
   pub relation-beyond : (p : ℕ) → words (rows commands) ≤ p → getD relation′ p 0 ≡ getD relation p 0
   pub generations-beyond : (p : ℕ) → rows commands ≤ p → getD generations′ p 0 ≡ getD generations p 0
 
 -- The verdict with its place, the pairs, their order and their total, every bit of happens-before, and each generation are those
--- of the definitions (D2), for every table that tells what reaches what; there is one (`RoundsTell`). Sheet and rooms are filled with them (R36, R40).
+-- of the definitions (D2), for every table that tells what reaches what; there is one (`RoundsTell`). The rooms are filled with them (R40).
 pub record Exact (commands lengths schedule relation generations : List ℕ) (r : Finding) (relation′ generations′ : List ℕ) : Type 0 where
   pub verdict : (ρ : ℕ → ℕ → Bool) → TellsReach commands lengths schedule ρ
       → numbered (r .verdict) ≡ verdictBy commands lengths schedule ρ (length relation) (length generations)
