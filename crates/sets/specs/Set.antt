@@ -20,7 +20,7 @@ has s t = ltb t mostThreads && member (s .words) t
 unfoldable pub none : Set
 none = record { words = replicate setWords 0 }
 
--- thread t is in it, or not; a number past the limit is no thread
+-- thread t is in it, or not; a number past the limit is no thread (R80)
 unfoldable pub put : Set → ℕ → Bool → Set
 put s t on = cond (ltb t mostThreads) (record { words = putAt (s .words) t on }) s
 
