@@ -44,11 +44,11 @@ scannedOf text =
 -- the numbers of an answer: a refusal's number and place, else 0 and the numbers of commands and threads (R42, R51)
 pub record Answer : Type 0 where
   pub told : Told
-  pub commands : ℕ
-  pub threads : ℕ
+  pub commandCount : ℕ
+  pub threadCount : ℕ
 
 abbrev pub answer : Told → ℕ → ℕ → Answer
-answer d m t = record { told = d; commands = m; threads = t }
+answer d m t = record { told = d; commandCount = m; threadCount = t }
 
 -- those of each case: 12, 13, and what is accepted (R41, R42, R51)
 abbrev pub answered : Reading → Answer

@@ -39,11 +39,11 @@ writtenNumbers r = toldNumbers (numbered (r .verdict)) (r .length) 0
 
 -- how many commands and threads a reading found
 abbrev pub sizesOf : Reading → Sizes
-sizesOf r = record { commands = answered r .commands; threads = answered r .threads }
+sizesOf r = record { commands = answered r .commandCount; threads = answered r .threadCount }
 
 -- Those of a reading of n bytes: then commands, threads, and where the rest begins. In a text of 4 GiB or more, which is refused by 13, that is told as the largest number (R84).
 abbrev pub readingNumbers : Reading → ℕ → List ℕ
-readingNumbers r n = toldNumbers (answered r .told) (answered r .commands) (answered r .threads) ++ min (restAt r n) largest ∷ []
+readingNumbers r n = toldNumbers (answered r .told) (answered r .commandCount) (answered r .threadCount) ++ min (restAt r n) largest ∷ []
 
 -- Those of a warp's run: its place, how it ended, and then the steps taken, the low half and the high half (R84).
 abbrev pub warpNumbers : Course → List ℕ

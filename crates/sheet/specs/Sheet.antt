@@ -37,9 +37,9 @@ abbrev pub firstKept : Sheet → Pair
 firstKept s = getD (s .pairs) 0 (pair 0 0)
 
 -- a total with one pair more; at the largest number of its type it stays (R80)
-abbrev pub counted : ℕ → ℕ
-counted total = min (total + 1) mostCounted
+abbrev pub raised : ℕ → ℕ
+raised total = min (total + 1) mostCounted
 
 -- One pair more. Sixteen pairs, then only the total grows (R35).
 unfoldable pub added : Sheet → Pair → Sheet
-added s p = record { pairs = cond (ltb (s .total) mostKept) (set (s .pairs) (s .total) p) (s .pairs); total = counted (s .total) }
+added s p = record { pairs = cond (ltb (s .total) mostKept) (set (s .pairs) (s .total) p) (s .pairs); total = raised (s .total) }
