@@ -12,7 +12,7 @@
  * `answer` gets the numbers that are told besides the one returned. It has at least 36 numbers. If it is shorter, 14 is returned before all
  * else and nothing is touched. Numbers of `answer` that are not named below are kept.
  *
- * Numbers of verdicts, places, and what the tables hold: document 01, and since 2026-02 no count is above the number of threads (3 otherwise).
+ * Numbers of verdicts, places, and what the tables hold: docs/RULES.md, R1 to R8 and R37; since 2026-02 no count is above the number of threads (3 otherwise).
  */
 #ifndef PROBE_H
 #define PROBE_H

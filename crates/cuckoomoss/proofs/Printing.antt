@@ -1,9 +1,9 @@
 -- In a room of zeros the bytes before the first zero are what was written, since that has no zero. Assumes nothing.
-use mathlib.Core.Path.{_≡_, refl, sym, ap, _∙_}
+use mathlib.Core.Path.{_≡_, refl, ap, _∙_}
 use mathlib.Core.List.{List, _++_}
-use Prim.Native.Nat.{ℕ, zero, suc, _+_, _≤_}
+use Prim.Native.Nat.{ℕ, zero, suc, _+_}
 use native.Mathlib.Omega.{arith}
-use lib.ListN.{length, getD, take, drop, replicate, length-replicate}
+use lib.ListN.{length, getD, take, drop, length-replicate}
 use lib.Seq.{getD-drop, take-append-seam}
 use Rattle.tables.specs.Over.{over}
 use Rattle.spelling.proofs.Runs.{run-none-at, run-past}

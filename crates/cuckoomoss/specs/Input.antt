@@ -5,7 +5,7 @@ use Rattle.io.specs.Counts.{Counts}
 use Rattle.cuckoomoss.specs.declared.input.Came.{Came}
 use Rattle.cuckoomoss.specs.declared.input.Came.the-variants.{Bytes, Failed}
 
--- bytes that came stand at the start of the room
+-- bytes that came stand at the start of the room; of a read that failed nothing is said
 abbrev pub CameWithin : Came → List ℕ → Type 0
 CameWithin (Bytes n) room = Counts n room
 CameWithin Failed room = Unit {0}

@@ -1,4 +1,4 @@
--- What is printed of a room in which a review has written: the bytes before the first zero.
+-- What is printed of a room in which a review has written: the bytes before the first zero (R57).
 use mathlib.Core.Path.{_≡_}
 use mathlib.Core.List.{List, _++_}
 use Prim.Native.Nat.{ℕ}
@@ -18,14 +18,15 @@ AnswersBeforeZero room r = (r ≡ beforeZero room) × Counts r room
 abbrev pub zeros : ℕ → List ℕ
 zeros k = replicate k 0
 
+-- the bytes before the first zero (R57)
 abbrev pub printed : List ℕ → List ℕ
 printed room = take (beforeZero room) room
 
--- In a room of zeros, what is printed is the report, whole and alone.
+-- In a room of zeros, what is printed is the report, whole and alone (R57).
 abbrev pub PrintsReport : Type 0
 PrintsReport = (text room′ : List ℕ) (n : ℕ) → TextReviewed text (zeros leastRoom) room′ n → printed room′ ≡ report (ofText text)
 
--- And with evidence the report and the exhibits.
+-- And with evidence the report and the exhibits (R57, R63).
 abbrev pub PrintsEvidence : Type 0
 PrintsEvidence =
     (text room′ : List ℕ) (n : ℕ) → TextEvidenced text (zeros leastEvidence) room′ n → printed room′ ≡ report (ofText text) ++ textExhibits text

@@ -39,7 +39,7 @@ use Rattle.evidence.proofs.Verdicts.{Gives, ten-commands, ten-disputes, eleven-
 use Rattle.exhibits.specs.Exhibits.{exhibited}
 use Rattle.exhibits.proofs.Doors.{exhibited-none, exhibited-all, exhibits-none}
 use Rattle.exhibits.proofs.Alike.{Named, exhibits-alike}
-use Rattle.exhibits.proofs.Fits.{exhibits-short}
+use Rattle.exhibits.proofs.Long.{exhibits-short}
 use Rattle.exhibits.proofs.True.{shown-true}
 use Rattle.printing.specs.Putting.{PutsBytes}
 use Rattle.printing.proofs.Placing.{puts-on, puts-over}

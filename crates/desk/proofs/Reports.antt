@@ -26,7 +26,7 @@ use Rattle.report.specs.declared.Conclusion.{Conclusion}
 use Rattle.desk.specs.Conclusion.{bare, toldOf, pairsOf, ofTables, readAs, ofText}
 use Rattle.report.specs.Report.{report}
 use Rattle.desk.specs.Promise.{leastRoom, TextReviewed}
-use Rattle.report.proofs.Fits.{Short, longest, report-short}
+use Rattle.report.proofs.Long.{Short, longest, report-short}
 use Rattle.desk.proofs.Demands.{taken, read-told, text-judged}
 
 -- small numbers

@@ -34,7 +34,7 @@ use Rattle.report.specs.declared.Conclusion.{Conclusion}
 use Rattle.desk.specs.Conclusion.{toldOf, pairsOf, ofTables, bare}
 use Rattle.desk.specs.Needs.{FilledRooms, JudgesTables}
 use Rattle.review.proofs.Rooms.{put}
-use Rattle.review.proofs.Telling.{verdict-is, sheet-is}
+use Rattle.review.proofs.Telling.{verdict-is, sheet-is, empty-is}
 use Rattle.steps.proofs.Filled.{filled-room}
 
 -- rooms of zeros are full ones
@@ -96,7 +96,7 @@ module _ {commands lengths σ relation room relation′ room′ : List ℕ} {f :
       by : (b : Bool) → fills (toldOf commands lengths .number) ≡ b
           → told-as ≡ cond b (record { told = toldOf commands lengths; sheet = sheetOf (pairsOf commands lengths) }) (bare (toldOf commands lengths))
       by true q = let s = p q in cc
-      by false q = let s : f .sheet ≡ sheetOf [] = R .demand₁ .empty (ap (λ (u : Told). fills (u .number)) e ∙ q) in cc
+      by false q = let s : f .sheet ≡ sheetOf [] = empty-is (R .demand₁) (ap (λ (u : Told). fills (u .number)) e ∙ q) in cc
 
   pub concluded : (checked commands lengths .number ≡ 0 → σ ≡ schedule commands lengths) → told-as ≡ ofTables commands lengths
   concluded s = by-cases (ℕ-discrete (checked commands lengths .number) 0) passed refused

@@ -1,5 +1,4 @@
 -- The claims of specs/Claims, each under its name in small letters. Assumes nothing.
-use mathlib.Core.List.{_++_}
 use Rattle.printing.proofs.Zeros.{no-zero-append}
 use Rattle.report.specs.Report.{report}
 use Rattle.report.proofs.Zeros.{report-no-zero}

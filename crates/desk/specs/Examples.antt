@@ -1,5 +1,5 @@
--- Document 01's starred example with a report in whole, C, and D, whose report is the same, and a text with a count that 2026-02 refuses: one table, and
--- the one test that each of its rows is to pass.
+-- The starred example that is proved to the report's bytes, C, and D, whose report is the same, and a text with a count that 2026-02 refuses: one table, and
+-- the one test that each of its rows is to pass (R78).
 use mathlib.Core.Bool.{Bool, true, _&&_}
 use mathlib.Core.List.{List, [], _∷_}
 use Prim.Native.Nat.{ℕ}
@@ -18,6 +18,7 @@ ofFour =
     118 ∷ 101 ∷ 114 ∷ 100 ∷ 105 ∷ 99 ∷ 116 ∷ 32 ∷ 49 ∷ 48 ∷ 32 ∷ 112 ∷ 108 ∷ 97 ∷ 99 ∷ 101 ∷ 32 ∷ 48 ∷ 32 ∷ 50 ∷ 10 ∷ 116 ∷ 111 ∷ 116 ∷ 97 ∷ 108 ∷ 32
     ∷ 52 ∷ 10 ∷ 48 ∷ 32 ∷ 50 ∷ 10 ∷ 49 ∷ 32 ∷ 50 ∷ 10 ∷ 48 ∷ 32 ∷ 51 ∷ 10 ∷ 49 ∷ 32 ∷ 51 ∷ 10 ∷ []
 
+-- the texts and their reports (R78)
 unfoldable pub reports : List Reported
 reports =
     -- C: four threads `sync 0 2;return`
@@ -47,7 +48,7 @@ reports =
     }
     ∷ []
 
--- the report of each text is the one given
+-- the report of each text is the one given (R78)
 unfoldable pub reported : List Reported → Bool
 reported [] = true
 reported (e ∷ es) = sameBytes (report (ofText (e .text))) (e .bytes) && reported es

@@ -28,7 +28,7 @@ use Rattle.evidence.specs.Evidence.{against, evidenceRoom, evidenceOf}
 use Rattle.evidence.specs.Doors.{refusalOf, Evidenced}
 use Rattle.evidence.proofs.Putting.{apart-few}
 use Rattle.evidence.proofs.Doors.{showing-passes, showing-either}
-use Rattle.review.proofs.Telling.{sheet-is}
+use Rattle.review.proofs.Telling.{sheet-is, empty-is}
 
 module _ {commands lengths σ relation generations room : List ℕ} {r : Evidence} {relation′ generations′ room′ : List ℕ}
     (E : Evidenced commands lengths σ relation generations room r relation′ generations′ room′) where
@@ -53,7 +53,7 @@ module _ {commands lengths σ relation generations room : List ℕ} {r : Evidenc
       by-cases (ℕ-discrete (all .number) 0)
       (λ (z : all .number ≡ 0).
       let R = E .reviewed z in
-      ⊎-elim (λ (t : fills (number (r .finding)) ≡ true). is _ (sheet-is (R .demand₂) t)) (λ (f : fills (number (r .finding)) ≡ false). is _ (R .demand₁ .empty f))
+      ⊎-elim (λ (t : fills (number (r .finding)) ≡ true). is _ (sheet-is (R .demand₂) t)) (λ (f : fills (number (r .finding)) ≡ false). is _ (empty-is (R .demand₁) f))
       (split (fills (number (r .finding)))))
       (λ (n : all .number ≢ 0). is _ (E .refused n .1 .sheet))
     where

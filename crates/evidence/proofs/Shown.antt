@@ -31,7 +31,7 @@ use Rattle.evidence.specs.Needs.{Showable}
 use Rattle.evidence.specs.Evidence.{evidenceRoom}
 use Rattle.evidence.proofs.Verdicts.{Gives, ten-commands, ten-disputes, eleven-commands, eleven-orders, eleven-long}
 use Rattle.evidence.proofs.Slices.{evidence-alike, nothing-of}
-use Rattle.review.proofs.Telling.{verdict-is, sheet-is}
+use Rattle.review.proofs.Telling.{verdict-is, sheet-is, empty-is}
 
 module _ {commands lengths σ relation room : List ℕ} {r : Finding} {relation′ room′ : List ℕ} (R : Reviewed commands lengths σ relation room r relation′ room′)
     (pass : reviewRefusal commands lengths (length relation) (length room) .number ≡ 0) where
@@ -79,7 +79,7 @@ module _ {commands lengths σ relation room : List ℕ} {r : Finding} {relation�
   some-sheet : (ps : List Pair) × (r .sheet ≡ sheetOf ps)
   some-sheet =
       ⊎-elim (λ (t : fills (number r) ≡ true). (faultPairs commands lengths (generationsBy commands lengths σ) (reaches commands lengths σ), sheet-is (R .demand₂) t))
-      (λ (f : fills (number r) ≡ false). ([], R .demand₁ .empty f))
+      (λ (f : fills (number r) ≡ false). ([], empty-is (R .demand₁) f))
       (split (fills (number r)))
 
   pub showable : {room″ : List ℕ} → evidenceRoom (rows commands) ≤ length room″ → Showable commands lengths (r .sheet) room″

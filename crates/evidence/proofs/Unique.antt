@@ -1,10 +1,11 @@
 -- Any two answers that meet the contract of a review with evidence are equal: verdict, sheet, entries and the three rooms. Assumes nothing.
 use mathlib.Core.Path.{_≡_, sym, ap, ap₂, _∙_}
 use mathlib.Core.Logic.{by-cases, _≢_}
-use mathlib.Core.List.{List, _++_}
+use mathlib.Core.List.{List}
 use Prim.Native.Nat.{ℕ}
 use native.Mathlib.Decide.{ℕ-discrete}
-use lib.ListN.{length, drop}
+use lib.ListN.{length}
+use Rattle.tables.specs.Over.{over}
 use Rattle.verdicts.specs.declared.Verdict.{Verdict}
 use Rattle.verdicts.proofs.Verdicts.{numbered-one}
 use Rattle.relation.specs.Bits.{Words}
@@ -32,7 +33,7 @@ module _ (commands lengths σ relation generations room : List ℕ) (a b : Evide
         ap₂ (λ (f : Finding) (n : ℕ). record { finding = f; entries = n }) f n,
         q,
         g,
-        x .room ∙ ap₂ (λ (τ : List ℕ) (n : ℕ). τ ++ drop n room) s n ∙ sym (y .room),
+        x .room ∙ ap (λ (τ : List ℕ). over τ room) s ∙ sym (y .room),
       ))
       (λ (m : refusalOf commands lengths relation generations room .number ≢ 0).
       let (d, x) = A .refused m in

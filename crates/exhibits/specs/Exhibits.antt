@@ -1,4 +1,4 @@
--- What is printed of evidence: for each schedule a line in words that says what it shows, and below it the schedule.
+-- What is printed of evidence: for each schedule a line in words that says what it shows, and below it the schedule (R62, R63).
 use mathlib.Core.Bool.{Bool, cond}
 use mathlib.Core.List.{List, [], _∷_, _++_}
 use Prim.Native.Nat.{ℕ}
@@ -17,13 +17,13 @@ use Rattle.wording.specs.declared.Shown.the-variants.{First}
 use Rattle.exhibits.specs.Shown.{shownBy}
 use Rattle.wording.specs.Lines.{shownLine, stepsLine}
 
--- a schedule below what it shows
+-- a schedule below what it shows (R63)
 abbrev pub exhibit : Shown → List ℕ → List ℕ
 exhibit s τ = shownLine s ++ stepsLine τ
 
 -- over what reaches what
 module _ (commands lengths : List ℕ) (ρ : ℕ → ℕ → Bool) where
-  -- the schedule of a pair, in which the first waits as long as it can
+  -- the schedule of a pair, in which the first waits as long as it can (R62)
   abbrev pub pairSchedule : Pair → List ℕ
   pairSchedule p = apartSchedule commands lengths ρ (p .first) (p .second)
 
@@ -31,16 +31,16 @@ module _ (commands lengths : List ℕ) (ρ : ℕ → ℕ → Bool) where
   unfoldable pub reuseExhibit : (ℕ → ℕ) → Pair → List ℕ
   reuseExhibit g p = exhibit (shownBy commands lengths g (pairSchedule p)) (pairSchedule p)
 
-  -- of a race, x first: y waits as long as it can
+  -- of a race, x first: y waits as long as it can (R62)
   unfoldable pub orderExhibit : (x y : ℕ) → List ℕ
   orderExhibit x y = exhibit (First x y) (apartSchedule commands lengths ρ y x)
 
-  -- of each race (x, y) in turn, x first and then y first
+  -- of each race (x, y) in turn, x first and then y first (R60)
   unfoldable pub raceExhibits : List Pair → List ℕ
   raceExhibits [] = []
   raceExhibits (p ∷ ps) = orderExhibit (p .first) (p .second) ++ orderExhibit (p .second) (p .first) ++ raceExhibits ps
 
--- 10: of the sheet's first pair. 11: of each pair that it keeps. Other verdicts have no exhibits.
+-- 10: of the sheet's first pair. 11: of each pair that it keeps. Other verdicts have no exhibits (R63).
 unfoldable pub exhibits : (commands lengths : List ℕ) (g : ℕ → ℕ) (ρ : ℕ → ℕ → Bool) → ℕ → Sheet → List ℕ
 exhibits commands lengths g ρ n s =
     cond (eqb n 10) (reuseExhibit commands lengths ρ g (firstKept s)) (cond (eqb n 11) (raceExhibits commands lengths ρ (keptPairs s)) [])

@@ -8,17 +8,14 @@ use native.Mathlib.Decide.{ℕ-discrete}
 use native.Mathlib.Omega.{arith}
 use lib.Dec.{eqb, leb, ltb}
 use borrow.Author.Tests.{ltb-true, eqb-true, le-leb, lt-leb, eq-eqb, ne-eqb}
-use Rattle.tables.specs.Rows.{rows, arrive}
-use Rattle.tables.specs.Heads.{Headed}
+use Rattle.tables.specs.Rows.{arrive}
 use Rattle.tables.proofs.Rows.{head-low}
 use Rattle.tables.proofs.Filling.{first-by-head, same-by-head}
-use Rattle.relation.specs.Table.{related}
 use Rattle.relation.proofs.Truth.{both}
 use Rattle.rooms.specs.Rooms.{numberAt}
-use Rattle.faults.specs.declared.faults.Fault.{Fault}
 use Rattle.faults.specs.declared.faults.Fault.the-variants.{Reuse, Race}
 use Rattle.faults.specs.declared.faults.Seen.{Seen}
-use Rattle.faults.specs.Faults.{succeeds, reuse, conflict, race, faulty}
+use Rattle.faults.specs.Faults.{succeeds, reuse, conflict, race}
 use Rattle.faults.specs.Claims.{IsFaulty}
 use Rattle.faults.specs.Tests.{succeedsBy, reuseBy, conflictBy, raceBy, isFault}
 

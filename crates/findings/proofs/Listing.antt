@@ -14,7 +14,7 @@ use Rattle.tables.specs.Rows.{rows}
 use Rattle.relation.proofs.Truth.{isnt, clashing}
 use Rattle.sheet.specs.declared.Pair.{Pair}
 use Rattle.sheet.specs.declared.Sheet.{Sheet}
-use Rattle.sheet.specs.Sheet.{addAll}
+use Rattle.sheet.specs.Needs.{addAll}
 use Rattle.sheet.proofs.Sheets.{addAll-total}
 use Rattle.faults.specs.declared.faults.Fault.{Fault}
 use Rattle.faults.specs.declared.faults.Fault.the-variants.{Reuse, Race}

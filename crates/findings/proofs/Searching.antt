@@ -10,7 +10,8 @@ use lib.ListN.{length, length-append}
 use Rattle.tables.specs.Limits.{mostRows}
 use Rattle.sheet.specs.declared.Pair.{Pair}
 use Rattle.sheet.specs.declared.Sheet.{Sheet}
-use Rattle.sheet.specs.Sheet.{mostKept, mostCounted, sheetOf, added, addAll}
+use Rattle.sheet.specs.Sheet.{mostKept, mostCounted, sheetOf, added}
+use Rattle.sheet.specs.Needs.{addAll}
 use Rattle.sheet.proofs.Sheets.{addAll-append, addAll-from, counted-on, sheet-total}
 use Rattle.faults.specs.Faults.{alongRow, allRows}
 use Rattle.faults.proofs.Searched.{row-length, all-none, all-next, all-length}

@@ -1,4 +1,4 @@
--- The reader, token by token.
+-- The reader, token by token (R44).
 use mathlib.Core.Bool.{Bool, true, false}
 use Prim.Native.Nat.{ℕ}
 use Rattle.spelling.specs.Machine.{Move, refuse, on, rowDone, threadDone, row}
@@ -49,6 +49,7 @@ atParting Semi = Refuse
 atParting Bars = On Word
 atParting Misfit = Refuse
 
+-- what a token does, by what is expected (R44)
 unfoldable pub tokenMoves : State → Token → TokenMove
 tokenMoves Word t = atWord t
 tokenMoves (Address k) t = atNumber (λ g. Row k g 0) t
@@ -57,7 +58,7 @@ tokenMoves (Count k b) t = atNumber (λ n. Row k b n) t
 tokenMoves Close t = atClose t
 tokenMoves Parting t = atParting t
 
--- may the text end here?
+-- whether the text may end here (R44)
 abbrev pub mayEnd : State → Bool
 mayEnd Word = false
 mayEnd (Address k) = false

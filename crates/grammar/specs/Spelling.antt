@@ -1,4 +1,4 @@
--- Tokens: a longest run of lower-case letters, a longest run of digits, `;`, `||`.
+-- Tokens: a longest run of lower-case letters, a longest run of digits, `;`, `||` (R43 to R45).
 use mathlib.Core.Path.{_≡_}
 use mathlib.Core.Logic.{_⊎_}
 use mathlib.Core.Bool.{Bool, false}
@@ -10,7 +10,7 @@ use Rattle.spelling.specs.Numbers.{Means}
 use Rattle.grammar.specs.declared.tokens.Token.{Token}
 use Rattle.grammar.specs.declared.tokens.Token.the-variants.{Access, Signal, Return, Number, Semi, Bars, Misfit}
 
--- the words
+-- the words (R44)
 abbrev pub readWord : List ℕ
 readWord = 114 ∷ 101 ∷ 97 ∷ 100 ∷ []
 
@@ -26,7 +26,7 @@ syncWord = 115 ∷ 121 ∷ 110 ∷ 99 ∷ []
 abbrev pub returnWord : List ℕ
 returnWord = 114 ∷ 101 ∷ 116 ∷ 117 ∷ 114 ∷ 110 ∷ []
 
--- the bytes spell the token
+-- the bytes spell the token (R43 to R45)
 abbrev pub Spelling : List ℕ → Token → Type 0
 Spelling w (Access k) = ((k ≡ read) × (w ≡ readWord)) ⊎ ((k ≡ write) × (w ≡ writeWord))
 Spelling w (Signal k) = ((k ≡ arrive) × (w ≡ arriveWord)) ⊎ ((k ≡ sync) × (w ≡ syncWord))
@@ -36,7 +36,7 @@ Spelling w Semi = w ≡ 59 ∷ []
 Spelling w Bars = w ≡ 124 ∷ 124 ∷ []
 Spelling w Misfit = ⊥
 
--- a word goes as far as its letters do, a number as far as its digits
+-- a word goes as far as its letters do, a number as far as its digits (R43)
 abbrev pub extends : Token → ℕ → Bool
 extends (Access k) b = is letter b
 extends (Signal k) b = is letter b

@@ -12,7 +12,6 @@ use borrow.Author.Tests.{eqb-true, eq-eqb, lt-ltb, le-ltb, ltb-true, le-leb}
 use Rattle.tables.specs.Rows.{rows, kind, name, arrive, sync, registers, syncs}
 use Rattle.relation.proofs.Truth.{split, clashing, same-test, both, pair}
 use Rattle.rooms.specs.Rooms.{numberAt}
-use Rattle.happens.specs.HappensBefore.{meets}
 use Rattle.happens.specs.Needs.{meetsRow, lastBelow, orLast, seat, sits, Seated, leader}
 
 -- ---- the last number below n that a test finds

@@ -1,4 +1,4 @@
-// The kernel type and the answer. The limits and the kinds of rows are named here once; the definitions hold those that a test uses to the numbers of document 01.
+// The kernel type and the answer. The limits and the kinds of rows are named here once; the definitions hold those that a test uses to the numbers of the rules (R66 to R68).
 pub struct Kernel;
 
 impl Kernel {

@@ -14,7 +14,8 @@ use lib.Seq.{getD-set-same, getD-set-other}
 use Rattle.warps.specs.Language.{Mem, eval}
 use Rattle.values.specs.Expressions.{expression}
 use Rattle.kernels.specs.Rows.{listOf}
-use Rattle.machine.specs.Entries.{Entry, row, again, token, againFrom, tokensFrom, tokenNumber, entryOf, stackIn, fromToken, pile}
+use Rattle.machine.specs.Entries.{Entry, row, again, token, againFrom, tokensFrom, entryOf, stackIn, fromToken, pile}
+use Rattle.machine.specs.Needs.{tokenNumber}
 
 -- the highest lane's value is stored
 pub stored : (μ : Mem) (e : List ℕ) (c c′ y y′ t t′ v : ℕ) → c ≡ c′ → y ≡ y′ → t ≡ t′ → v ≡ eval (expression e y) t μ → set μ c v ≡ set μ c′ (eval (expression e y′) t′ μ)

@@ -1,16 +1,16 @@
--- The stack of a warp in a room of numbers, its top last.
+-- The stack of a warp in a room of numbers, its top last (R72, R83).
 use mathlib.Core.Bool.{cond}
 use mathlib.Core.List.{List, [], _∷_}
-use Prim.Native.Nat.{ℕ, zero, suc, _+_, _-_, _*_, _/_, _%_, _^_}
+use Prim.Native.Nat.{ℕ, zero, suc, _-_, _/_, _%_, _^_}
 use lib.Dec.{eqb, ltb}
 use lib.ListN.{getD}
 use Rattle.kernels.specs.Rows.{statements, listOf}
 
--- the stack has at most so many statements and tokens
+-- the stack has at most so many statements and tokens (R72)
 abbrev pub mostEntries : ℕ
 mostEntries = 256
 
--- its room has place for a full stack, and for what one statement can put there before it is told to be too much
+-- its room has place for a full stack, and for what one statement can put there before it is told to be too much (R83)
 abbrev pub stackRoom : ℕ
 stackRoom = 1024
 
@@ -27,13 +27,10 @@ againFrom = 256
 abbrev pub tokensFrom : ℕ
 tokensFrom = 512
 
-abbrev pub tokenNumber : (kind mask : ℕ) → ℕ
-tokenNumber kind mask = tokensFrom + 4 * mask + kind
-
 unfoldable pub entryOf : ℕ → Entry
 entryOf e = cond (ltb e againFrom) (row e) (cond (ltb e tokensFrom) (again (e - againFrom)) (token ((e - tokensFrom) % 4) ((e - tokensFrom) / 4 % 2 ^ 32)))
 
--- what a room holds up to a height, the top first
+-- what a room holds up to a height, the top first (R83)
 unfoldable pub stackIn : (room : List ℕ) (height : ℕ) → List Entry
 stackIn room zero = []
 stackIn room (suc n) = entryOf (getD room n 0) ∷ stackIn room n

@@ -5,7 +5,8 @@ ghost use Prim.Native.Nat.{_+_, _≤_, _<_};
 ghost use lib.ListN.{length, getD};
 ghost use Rattle.kernels.specs.Limits.{mostStatements};
 ghost use Rattle.kernels.specs.Rows.{statements};
-ghost use Rattle.machine.specs.Entries.{token, again, tokenNumber, entryOf, stackIn, fromToken, listOver};
+ghost use Rattle.machine.specs.Entries.{token, again, entryOf, stackIn, fromToken, listOver};
+ghost use Rattle.machine.specs.Needs.{tokenNumber};
 use lanes::Lanes;
 use values::at;
 

@@ -29,7 +29,7 @@ use Rattle.notation.specs.Needs.{Rooms}
 use Rattle.grammar.specs.Tokens.{starts, sizeOf}
 use Rattle.notation.specs.Promise.{Within, GivesTables, RefusedAt, ByGrammar, Read}
 use Rattle.grammar.proofs.Lexes.{pos, most}
-use Rattle.grammar.proofs.Listings.{listing-found, listing-one}
+use Rattle.grammar.proofs.Listings.{listing-found}
 use Rattle.grammar.proofs.Grammars.{lexer, grammar}
 use Rattle.notation.proofs.Passes.{flat-long}
 
@@ -79,8 +79,8 @@ answered-one Over (Accepted m t) e = let z : _≡_ {A = ℕ} 13 0 = ap (λ a. a 
 answered-one (Accepted m t) (Unfit q) e = let z : _≡_ {A = ℕ} 0 12 = ap (λ a. a .told .number) e in absurd (omega arith)
 answered-one (Accepted m t) Over e = let z : _≡_ {A = ℕ} 0 13 = ap (λ a. a .told .number) e in absurd (omega arith)
 answered-one (Accepted m t) (Accepted n u) e =
-    let i : m ≡ n = ap (λ a. a .commands) e in
-    let j : t ≡ u = ap (λ a. a .threads) e in
+    let i : m ≡ n = ap (λ a. a .commandCount) e in
+    let j : t ≡ u = ap (λ a. a .threadCount) e in
     cc
 
 -- the reading that a judgement gives, within the limits or not

@@ -1,11 +1,10 @@
 -- Numbers in decimal have no zero byte, and neither have bytes that are put together of such. Assumes nothing.
-use mathlib.Core.Path.{_≡_, refl, sym, ap, _∙_}
 use mathlib.Core.Bool.{Bool, true, false, cond}
 use mathlib.Core.List.{List, [], _∷_, _++_}
 use Prim.Native.Nat.{ℕ, zero, suc, _+_, _/_, _%_}
 use native.Mathlib.Omega.{arith}
 use lib.Dec.{ltb}
-use lib.ListN.{length, length-append}
+use lib.ListN.{length-append}
 use borrow.Author.Tests.{ne-eqb}
 use Rattle.spelling.specs.Bytes.{run}
 use Rattle.spelling.proofs.Runs.{run-past}

@@ -1,4 +1,4 @@
--- Numbers in decimal, as bytes.
+-- Numbers in decimal, as bytes (R55).
 use mathlib.Core.Bool.{cond}
 use mathlib.Core.List.{List, [], _∷_, _++_}
 use Prim.Native.Nat.{ℕ, zero, suc, _+_, _/_, _%_}
@@ -13,6 +13,6 @@ unfoldable pub figuresTo : ℕ → ℕ → List ℕ
 figuresTo zero n = figure n ∷ []
 figuresTo (suc k) n = cond (ltb n 10) (figure n ∷ []) (figuresTo k (n / 10) ++ (figure (n % 10) ∷ []))
 
--- a number in decimal, with no leading zero but 0 itself
+-- a number in decimal, with no leading zero but 0 itself (R55)
 unfoldable pub figures : ℕ → List ℕ
 figures n = figuresTo n n

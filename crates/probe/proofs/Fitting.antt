@@ -82,7 +82,7 @@ module _ {commands lengths room room′ : List ℕ} {r : Written} (W : WritesSch
 -- ---- the reader
 
 module _ {text commands lengths commands′ lengths′ : List ℕ} where
-  pub reading-counted : (r : Reading) → Read text commands lengths commands′ lengths′ r → Counted (answered r .told) (answered r .commands) (answered r .threads)
+  pub reading-counted : (r : Reading) → Read text commands lengths commands′ lengths′ r → Counted (answered r .told) (answered r .commandCount) (answered r .threadCount)
   unfolding mostBytes mostRows mostThreads
   reading-counted (Unfit p) R =
       let (h, i, k) = R .by-grammar .refuses p refl in

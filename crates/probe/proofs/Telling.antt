@@ -69,7 +69,7 @@ module _ (text commands lengths answer : List ℕ) where
           r,
           R,
           ap (λ (t : Told). t .number) e,
-          rw (p, e, f, at, rest-begins text r rest s .1) (told-and-one (answered r .told) (answered r .commands) (answered r .threads) answer _ (omega arith)),
+          rw (p, e, f, at, rest-begins text r rest s .1) (told-and-one (answered r .told) (answered r .commandCount) (answered r .threadCount) answer _ (omega arith)),
         );
       }
 

@@ -21,7 +21,8 @@ use Rattle.steps.specs.declared.state.Replay.{Replay}
 use Rattle.steps.specs.State.{start}
 use Rattle.steps.specs.Step.{allowed, command, stepped}
 use Rattle.programs.specs.Program.{program}
-use Rattle.steps.specs.Writing.{goesOn, stepping, picked, lowestPicked, pickedFirst}
+use Rattle.steps.specs.Writing.{goesOn, stepping, picked, pickedFirst}
+use Rattle.steps.specs.Needs.{lowestPicked}
 use Rattle.replay.specs.Writer.{scheduleBy}
 use Rattle.programs.proofs.Programs as programs
 use Rattle.replay.proofs.Few.{steps-few}

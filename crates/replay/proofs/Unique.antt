@@ -1,10 +1,9 @@
 -- Any two answers that meet a door's contract are equal. Assumes nothing.
 use mathlib.Core.Path.{_≡_, sym, ap, ap₂, _∙_}
 use mathlib.Core.Logic.{by-cases, _≢_}
-use mathlib.Core.List.{List, _++_}
+use mathlib.Core.List.{List}
 use Prim.Native.Nat.{ℕ}
 use native.Mathlib.Decide.{ℕ-discrete}
-use lib.ListN.{drop}
 use Rattle.verdicts.specs.Verdicts.{numbered}
 use Rattle.verdicts.specs.declared.Verdict.{Verdict}
 use Rattle.verdicts.proofs.Verdicts.{numbered-one}
@@ -28,7 +27,7 @@ module _ (σ commands lengths room : List ℕ) (a b : Written) {ra rb : List ℕ
       let y = B .wrote (ap (λ (v : Verdict). numbered v .number) (sym one-verdict) ∙ e) in
       let n : a .length ≡ b .length = x .long ∙ sym (y .long) in (
         ap₂ (λ (v : Verdict) (n : ℕ). record { verdict = v; length = n }) one-verdict n,
-        x .room ∙ ap (λ (n : ℕ). σ ++ drop n room) n ∙ sym (y .room),
+        x .room ∙ sym (y .room),
       ))
       (λ (f : numbered (a .verdict) .number ≢ 0).
       let x = A .refused f in

@@ -18,7 +18,8 @@ use Rattle.steps.specs.State.{start}
 use Rattle.steps.specs.Step.{allowed, stepped}
 use Rattle.steps.specs.Ending.{lowestAllowed}
 use Rattle.programs.specs.Program.{program}
-use Rattle.steps.specs.Writing.{goesOn, stepping, picked, lowestPicked, pickedFirst}
+use Rattle.steps.specs.Writing.{goesOn, stepping, picked, pickedFirst}
+use Rattle.steps.specs.Needs.{lowestPicked}
 use Rattle.replay.specs.Writer.{scheduleBy, schedule}
 use Rattle.replay.specs.Schedules.{Complete}
 use Rattle.programs.proofs.Programs as programs

@@ -12,7 +12,7 @@ use Rattle.sheet.proofs.Sheets.{kept-are}
 use Rattle.printing.specs.Figures.{figures}
 use Rattle.printing.specs.Marks.{space, newline}
 use Rattle.report.specs.Report.{verdictWord, placeWord, totalWord, twoNumbers, verdictLine, totalLine, pairLines, report}
-use Rattle.report.specs.Again.{ToldAgain}
+use Rattle.report.specs.Claims.{ToldAgain}
 use Rattle.printing.proofs.Numerals.{Digit, figures-apart}
 
 -- ---- a number up to the space or the newline after it

@@ -41,7 +41,7 @@ use Rattle.rooms.proofs.Refusals.{admitted, refused-tables, refused-none, refus
 use Rattle.faults.proofs.Searched.{faults-few}
 use Rattle.faults.proofs.Pairs.{in-order}
 use Rattle.review.proofs.Reviews.{refused-refusal, fault-fills}
-use Rattle.review.proofs.Telling.{verdict-is, sheet-is}
+use Rattle.review.proofs.Telling.{verdict-is, sheet-is, empty-is}
 
 -- ---- pairs: no number is above the limit of rows
 
@@ -190,7 +190,7 @@ unfolding sheetOf
 finding-small {commands} {lengths} {σ} {relation} {room} {r} R =
     let e = verdict-is (R .demand₂) in
     let P = subst Placed (sym e) (told-placed commands lengths σ (length relation) (length room)) in
-    let (t, p) = ⊎-elim by (λ f. subst SmallSheet (sym (R .demand₁ .empty f)) empty-fits) (split (fills (number r))) in
+    let (t, p) = ⊎-elim by (λ f. subst SmallSheet (sym (empty-is (R .demand₁) f)) empty-fits) (split (fills (number r))) in
     record { place = P .place; also = P .also; total = t; pairs = p }
   where
     by : fills (number r) ≡ true → SmallSheet (r .sheet)

@@ -9,7 +9,7 @@ use lib.ListN.{length, getD}
 use borrow.Author.Tests.{eq-eqb}
 use Rattle.tables.specs.Rows.{rows}
 use Rattle.verdicts.specs.Verdicts.{tell, numbered}
-use Rattle.verdicts.specs.Numbers.{isRefusal, isEnding, fills, isVerdict}
+use Rattle.verdicts.specs.Numbers.{isRefusal, isEnding, hasPairs, fills, isVerdict}
 use Rattle.verdicts.specs.declared.Told.{Told}
 use Rattle.verdicts.specs.declared.Verdict.{Verdict}
 use Rattle.verdicts.proofs.Numbers.{few-refusal, refusal-verdict, refusal-unfilled, ending-verdict, ending-unfilled, fills-verdict}
@@ -29,7 +29,7 @@ use Rattle.happens.specs.HappensBefore.{Reached}
 use Rattle.happens.specs.Promise.{PutsHappensBefore}
 use Rattle.faults.specs.Faults.{faults}
 use Rattle.sheet.specs.Sheet.{sheetOf}
-use Rattle.findings.specs.Findings.{firstPair, faultTold, faultPairs, Finds}
+use Rattle.findings.specs.Findings.{firstPair, orPairs, faultTold, faultPairs, Finds}
 use Rattle.review.specs.Judge.{generationsBy, reaches, verdictOf}
 use Rattle.review.specs.Agreement.{number, Judges, Reviewed}
 use Rattle.verdicts.proofs.FirstTold.{or-first, or-second}
@@ -51,6 +51,12 @@ pub fault-fills : (ps qs : List Pair) → fills (firstPair 10 ps (firstPair 11 q
 fault-fills (p ∷ ps) qs = refl
 fault-fills [] (q ∷ qs) = refl
 fault-fills [] [] = refl
+
+-- a number without pairs is told where there are none
+no-faults : (ps qs : List Pair) → hasPairs (firstPair 10 ps (firstPair 11 qs (tell 0 0 0)) .number) ≡ false → orPairs ps qs ≡ []
+no-faults (p ∷ ps) qs f = clashing refl f
+no-faults [] (q ∷ qs) f = clashing refl f
+no-faults [] [] f = refl
 
 -- ---- the contract
 
@@ -158,7 +164,8 @@ module _ (commands lengths σ relation room : List ℕ) where
               demand₁ =
                   record {
                     verdict = fills-verdict (number r) f;
-                    empty = λ z. clashing f z;
+                    empty =
+                        λ z. s ∙ ap sheetOf (no-faults (faults commands lengths g (reaches commands lengths σ) Reuse) (faults commands lengths g (reaches commands lengths σ) Race) (ap hasPairs (sym n) ∙ z));
                     relation-kept = λ z. clashing f z;
                     generations-kept = λ z. clashing f z;
                     relation-beyond = reached .kept;

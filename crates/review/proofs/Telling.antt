@@ -1,13 +1,14 @@
 -- Whatever table tells what reaches what, the verdict and the pairs are the same: so demand 2 is shown, and used, by the table of Warshall's rounds. Assumes nothing.
-use mathlib.Core.Path.{_≡_, refl, sym, ap, _∙_}
-use mathlib.Core.Bool.{Bool, true}
-use mathlib.Core.List.{List}
+use mathlib.Core.Path.{_≡_, refl}
+use mathlib.Core.Bool.{Bool, true, false}
+use mathlib.Core.List.{List, []}
 use Prim.Native.Nat.{ℕ, _<_}
 use lib.ListN.{length}
 use Rattle.verdicts.specs.Verdicts.{numbered}
 use Rattle.verdicts.specs.Numbers.{fills}
+use Rattle.verdicts.proofs.Numbers.{pairs-fill}
 use Rattle.tables.specs.Rows.{rows}
-use Rattle.relation.proofs.Truth.{same-test}
+use Rattle.relation.proofs.Truth.{same-test, clashing, isnt}
 use Rattle.schedules.proofs.Theorems.{decides}
 use Rattle.sheet.specs.Sheet.{sheetOf}
 use Rattle.programs.specs.Program.{program}
@@ -18,7 +19,7 @@ use Rattle.faults.proofs.Pairs.{same-faults}
 use Rattle.findings.specs.declared.finding.Finding.{Finding}
 use Rattle.findings.specs.Findings.{faultPairs}
 use Rattle.review.specs.Judge.{generationsBy, TellsReach, verdictBy, reaches, verdictOf}
-use Rattle.review.specs.Agreement.{number, Exact, RoundsTell}
+use Rattle.review.specs.Agreement.{number, Safe, Exact, RoundsTell}
 
 pub rounds-tell : RoundsTell
 rounds-tell commands lengths σ = record { exactly = decides (program commands lengths) (generationsBy commands lengths σ) }
@@ -52,3 +53,8 @@ module _ {commands lengths σ relation generations : List ℕ} {r : Finding} {re
 
   pub sheet-is : fills (number r) ≡ true → r .sheet ≡ sheetOf (faultPairs commands lengths (generationsBy commands lengths σ) (reaches commands lengths σ))
   sheet-is = E .sheet (reaches commands lengths σ) (rounds-tell commands lengths σ)
+
+-- what demand 1 says of the sheet, where no room is filled
+pub empty-is : {commands relation generations : List ℕ} {r : Finding} {relation′ generations′ : List ℕ} → Safe commands relation generations r relation′ generations′
+    → fills (number r) ≡ false → r .sheet ≡ sheetOf []
+empty-is {r = r} S f = S .empty (isnt _ (λ e. clashing (pairs-fill (number r) e) f))

@@ -14,7 +14,7 @@ use Rattle.relation.proofs.Rooms.{holds-one}
 use Rattle.sheet.specs.declared.Sheet.{Sheet}
 use Rattle.findings.specs.declared.finding.Finding.{Finding}
 use Rattle.review.specs.Agreement.{number, Reviewed}
-use Rattle.review.proofs.Telling.{verdict-is, sheet-is}
+use Rattle.review.proofs.Telling.{verdict-is, sheet-is, empty-is}
 
 module _ (commands lengths σ relation room : List ℕ) (a b : Finding) {ra ga rb gb : List ℕ} (wa : Words ra) (wb : Words rb)
     (A : Reviewed commands lengths σ relation room a ra ga) (B : Reviewed commands lengths σ relation room b rb gb) where
@@ -36,7 +36,7 @@ module _ (commands lengths σ relation room : List ℕ) (a b : Finding) {ra ga r
       ))
       (λ (t : fills (number a) ≡ false).
       let u : fills (number b) ≡ false = ap fills (sym same-number) ∙ t in (
-        ap₂ (λ (v : Verdict) (s : Sheet). record { verdict = v; sheet = s }) same-verdict (A .demand₁ .empty t ∙ sym (B .demand₁ .empty u)),
+        ap₂ (λ (v : Verdict) (s : Sheet). record { verdict = v; sheet = s }) same-verdict (empty-is (A .demand₁) t ∙ sym (empty-is (B .demand₁) u)),
         A .demand₁ .relation-kept t ∙ sym (B .demand₁ .relation-kept u),
         A .demand₁ .generations-kept t ∙ sym (B .demand₁ .generations-kept u),
       ))

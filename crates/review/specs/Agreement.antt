@@ -1,4 +1,4 @@
--- What a review promises: the user's three demands; and what follows from them for two reviews of one program.
+-- What a review promises: the three demands (D1 to D3, R36, R40); and what follows from them for two reviews of one program (R64).
 use mathlib.Core.Path.{_≡_}
 use mathlib.Core.Bool.{Bool, true, false}
 use mathlib.Core.List.{List, []}
@@ -8,7 +8,7 @@ use lib.ListN.{length, getD, take}
 use Rattle.tables.specs.Rows.{rows}
 use Rattle.tables.specs.Over.{over}
 use Rattle.verdicts.specs.Verdicts.{tell, numbered}
-use Rattle.verdicts.specs.Numbers.{fills, isVerdict, settles, disagrees}
+use Rattle.verdicts.specs.Numbers.{hasPairs, fills, isVerdict, settles, disagrees}
 use Rattle.relation.specs.Bits.{Words}
 use Rattle.relation.specs.Table.{words}
 use Rattle.findings.specs.declared.finding.Finding.{Finding}
@@ -25,18 +25,18 @@ use Rattle.replay.specs.Schedules.{Complete, Agree, InOneOrder, Disagree}
 abbrev pub number : Finding → ℕ
 number r = numbered (r .verdict) .number
 
--- Demand 1: a verdict for every input. Unless it is 0, 10 or 11, the sheet is empty and the lent rooms keep every number they held; beyond
+-- A verdict for every input (D1). Unless it is 10 or 11, the sheet is empty (R36); unless it is 0, 10 or 11, the lent rooms keep every number they held (R40); beyond
 -- what they are filled with they keep it always.
 pub record Safe (commands relation generations : List ℕ) (r : Finding) (relation′ generations′ : List ℕ) : Type 0 where
   pub verdict : isVerdict (number r) ≡ true
-  pub empty : fills (number r) ≡ false → r .sheet ≡ sheetOf []
+  pub empty : hasPairs (number r) ≡ false → r .sheet ≡ sheetOf []
   pub relation-kept : fills (number r) ≡ false → relation′ ≡ relation
   pub generations-kept : fills (number r) ≡ false → generations′ ≡ generations
   pub relation-beyond : (p : ℕ) → words (rows commands) ≤ p → getD relation′ p 0 ≡ getD relation p 0
   pub generations-beyond : (p : ℕ) → rows commands ≤ p → getD generations′ p 0 ≡ getD generations p 0
 
--- Demand 2: the verdict with its place, the pairs, their order and their total, every bit of happens-before, and each generation are those
--- of the definitions, for every table that tells what reaches what; there is one (`RoundsTell`).
+-- The verdict with its place, the pairs, their order and their total, every bit of happens-before, and each generation are those
+-- of the definitions (D2), for every table that tells what reaches what; there is one (`RoundsTell`). The rooms are filled with them (R40).
 pub record Exact (commands lengths schedule relation generations : List ℕ) (r : Finding) (relation′ generations′ : List ℕ) : Type 0 where
   pub verdict : (ρ : ℕ → ℕ → Bool) → TellsReach commands lengths schedule ρ
       → numbered (r .verdict) ≡ verdictBy commands lengths schedule ρ (length relation) (length generations)
@@ -45,30 +45,30 @@ pub record Exact (commands lengths schedule relation generations : List ℕ) (r 
   pub relation-holds : fills (number r) ≡ true → Reached commands lengths (generationsBy commands lengths schedule) relation relation′
   pub generations-hold : fills (number r) ≡ true → generations′ ≡ over (take (rows commands) (played commands lengths schedule .generations)) generations
 
--- The table of Warshall's rounds tells what reaches what.
+-- The table of Warshall's rounds tells what reaches what (D2, R26).
 abbrev pub RoundsTell : Type 0
 RoundsTell = (commands lengths schedule : List ℕ) → TellsReach commands lengths schedule (reaches commands lengths schedule)
 
--- Every two conflicting accesses stand in the same order in all legal complete schedules.
+-- Every two conflicting accesses stand in the same order in all legal complete schedules (D3).
 abbrev pub SameOrder : List ℕ → List ℕ → Type 0
 SameOrder commands lengths =
     (x y : ℕ) → x < rows commands → y < rows commands → x ≢ y → conflict commands x y ≡ true → InOneOrder commands lengths x y
 
--- Demand 3, of a verdict's number: 0 or 11 exactly when the schedule offered is legal and complete and every legal complete schedule ends
+-- Of a verdict's number: 0 or 11 exactly when the schedule offered is legal and complete and every legal complete schedule ends
 -- clean with the same generation for each command; 0 exactly when, besides, every two conflicting accesses stand in the same order in all of
--- those schedules; 7 to 10 only where that agreement fails, and the schedules that show it are given.
+-- those schedules; 7 to 10 only where that agreement fails, and the schedules that show it are given (D3).
 pub record Judges (commands lengths schedule : List ℕ) (n : ℕ) : Type 0 where
   pub agreement : (settles n ≡ true) ↔ (Complete commands lengths schedule × Agree commands lengths)
   pub order : (n ≡ 0) ↔ (Complete commands lengths schedule × Agree commands lengths × SameOrder commands lengths)
   pub disagreement : disagrees n ≡ true → Disagree commands lengths
 
--- The contract of `review`. The third holds for tables and rooms that pass refusals 1 to 4.
+-- The contract of `review` (D1 to D3). The third holds for tables and rooms that pass refusals 1 to 4.
 pub record Reviewed (commands lengths schedule relation generations : List ℕ) (r : Finding) (relation′ generations′ : List ℕ) : Type 0 where
   pub demand₁ : Safe commands relation generations r relation′ generations′
   pub demand₂ : Exact commands lengths schedule relation generations r relation′ generations′
   pub demand₃ : reviewRefusal commands lengths (length relation) (length generations) ≡ tell 0 0 0 → Judges commands lengths schedule (number r)
 
--- ---- one program, one file: request 2026-10
+-- ---- one program, one file (R64, 2026-10)
 
 -- A review of a program: the schedule that was offered, the rooms as they were lent, what was found, and the rooms as they were given back, that of the
 -- relation with words of 32 bits in it.
@@ -83,7 +83,7 @@ pub record Review (commands lengths : List ℕ) : Type 0 where
   pub in-words : Words relation′
 
 -- Two of them leave one file: the same verdict with its places, the same sheet with its total, the same words of the relation, M × ⌈M/32⌉, and the same M
--- generations. Beyond these each room is its owner's, and keeps what it held (`relation-beyond`, `generations-beyond` of Safe).
+-- generations (R64). Beyond these each room is its owner's, and keeps what it held (`relation-beyond`, `generations-beyond` of Safe).
 pub record SameFile {commands lengths : List ℕ} (a b : Review commands lengths) : Type 0 where
   pub verdict : numbered (a .found .verdict) ≡ numbered (b .found .verdict)
   pub sheet : a .found .sheet ≡ b .found .sheet
@@ -95,7 +95,7 @@ abbrev pub Unrefused : {commands lengths : List ℕ} → Review commands lengths
 Unrefused {commands} {lengths} r = reviewRefusal commands lengths (length (r .relation)) (length (r .generations)) ≡ tell 0 0 0
 
 module _ (commands lengths : List ℕ) where
-  -- Any two reviews of one program that both end in 0 or 11 leave one file, whatever schedules they were offered and whatever rooms they were lent.
+  -- Any two reviews of one program that both end in 0 or 11 leave one file, whatever schedules they were offered and whatever rooms they were lent (R64).
   -- Excepted is what hangs on the schedule offered, or may:
   --   verdict 10: which commands meet in a generation, and so which pairs are at fault (`TenDiffers` of Examples: one program, two files);
   --   evidence (2026-04): for 10 it speaks against the schedule offered, and for 11 any schedules will do that show the race;
@@ -103,6 +103,6 @@ module _ (commands lengths : List ℕ) where
   abbrev pub OneFile : Type 0
   OneFile = (a b : Review commands lengths) → settles (number (a .found)) ≡ true → settles (number (b .found)) ≡ true → SameFile a b
 
-  -- And one such review speaks for all: who offers any legal and complete schedule, with rooms that pass, ends with its file.
+  -- And one such review speaks for all: who offers any legal and complete schedule, with rooms that pass, ends with its file (R64).
   abbrev pub OneForAll : Type 0
   OneForAll = (a b : Review commands lengths) → settles (number (a .found)) ≡ true → Complete commands lengths (b .schedule) → Unrefused b → SameFile a b

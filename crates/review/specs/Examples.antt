@@ -1,4 +1,4 @@
--- The starred examples of document 01, as document 02 has changed them: one table, and the one test that each of its rows is to pass.
+-- The starred examples, as the requests have changed them: one table, and the one test that each of its rows is to pass (R78).
 use mathlib.Core.Path.{_≡_}
 use mathlib.Core.Bool.{Bool, true, false, cond, _&&_}
 use mathlib.Core.List.{List, [], _∷_, _++_}
@@ -20,12 +20,12 @@ use Rattle.review.specs.Agreement.{number, Review, SameFile, Unrefused}
 
 -- ---- the table
 
--- numbers that document 01 gives for an example, or does not
+-- numbers that the rules give for an example, or do not
 pub data Given : Type 0 where
   given : List ℕ → Given
   unsaid : Given
 
--- A program and a schedule, and what document 01 says of them: the verdict with its place, the pairs in their order (none outside 10 and 11),
+-- A program and a schedule, and what the rules say of them: the verdict with its place, the pairs in their order (none outside 10 and 11),
 -- their total, the generation of each command, and happens-before, one word a command.
 pub record Example : Type 0 where
   pub commands : List ℕ
@@ -57,7 +57,7 @@ fourSyncs = 3 ∷ 0 ∷ 2 ∷ 3 ∷ 0 ∷ 2 ∷ 3 ∷ 0 ∷ 2 ∷ 3 ∷ 0 ∷ 2 
 abbrev pub oneEach : List ℕ
 oneEach = 1 ∷ 1 ∷ 1 ∷ 1 ∷ []
 
--- A row of commands is kind, name, count. Kind 0 read, 1 write, 2 arrive, 3 sync; reads and writes have count 0.
+-- The examples (R78). A row of commands is kind, name, count. Kind 0 read, 1 write, 2 arrive, 3 sync; reads and writes have count 0 (R2, R4).
 unfoldable pub examples : List Example
 examples =
     -- A: write 7; arrive 0 2 || sync 0 2; read 7, schedule 0 0 1 1: verdict 0, generations 0 1 1 0, relation words 15 14 12 8
@@ -106,7 +106,7 @@ examples =
     (tell 8 1 0) [] 0 unsaid unsaid
     -- K: one thread, no commands, no steps: 0
     ∷ example [] (0 ∷ []) [] (tell 0 0 0) [] 0 unsaid unsaid
-    -- L (unstarred), by 2026-02: arrive 0 2; arrive 0 2 || (second thread empty), schedule 0 0: 0
+    -- L (unstarred), by 2026-02: arrive 0 2; arrive 0 2 || (second thread empty), schedule 0 0: 0, since one thread is counted twice (R14)
     ∷ example (2 ∷ 0 ∷ 2 ∷ 2 ∷ 0 ∷ 2 ∷ []) (2 ∷ 0 ∷ []) (0 ∷ 0 ∷ []) (tell 0 0 0) [] 0 unsaid unsaid
     ∷ []
 
@@ -153,7 +153,7 @@ module _ (e : Example) where
   abbrev pub verdictFound : Told
   verdictFound = verdictOf commands lengths schedule (words (rows commands)) (rows commands)
 
-  -- the pairs of the sheet: it is empty outside 0, 10 and 11
+  -- the pairs of the sheet: it is empty outside 0, 10 and 11 (R36)
   abbrev pub pairsFound : List Pair
   pairsFound =
       cond (fills (verdictFound .number)) (faultPairs commands lengths (generationsBy commands lengths schedule) (reaches commands lengths schedule)) []
@@ -164,7 +164,7 @@ module _ (e : Example) where
   abbrev pub relationFound : List ℕ
   relationFound = below (λ i. word (reaches commands lengths schedule i) (rows commands)) (rows commands)
 
-  -- It is what document 01 says.
+  -- It is what the rules say (R78).
   unfoldable pub holds : Bool
   holds =
       sameTold verdictFound (e .verdict) && (same samePair pairsFound (e .pairs) && (eqb (sheetOf pairsFound .total) (e .total)
@@ -172,7 +172,7 @@ module _ (e : Example) where
 
 -- ---- one program, two files
 
--- Why `OneFile` (Agreement) excepts 10: whatever rooms C is reviewed in, schedules 0 1 2 3 and 0 2 1 3 both get 10, and leave two files.
+-- Why `OneFile` (Agreement) excepts 10: whatever rooms C is reviewed in, schedules 0 1 2 3 and 0 2 1 3 both get 10, and leave two files (R64).
 abbrev pub TenDiffers : Type 0
 TenDiffers =
     (a b : Review fourSyncs oneEach) → Unrefused a → Unrefused b → a .schedule ≡ 0 ∷ 1 ∷ 2 ∷ 3 ∷ [] → b .schedule ≡ 0 ∷ 2 ∷ 1 ∷ 3 ∷ []

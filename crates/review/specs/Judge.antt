@@ -1,4 +1,4 @@
--- The verdict, in the order tested.
+-- The verdict, in the order tested (D2, R26, R37).
 use mathlib.Core.Path.{_≡_}
 use mathlib.Core.Logic.{_↔_}
 use mathlib.Core.Bool.{Bool, true}
@@ -15,15 +15,15 @@ use Rattle.rooms.specs.Refusals.{reviewRefusal}
 use Rattle.findings.specs.Findings.{faultTold}
 
 module _ (commands lengths schedule : List ℕ) where
-  -- the generations of a schedule's commands
+  -- the generations of a schedule's commands (R13)
   abbrev pub generationsBy : ℕ → ℕ
   generationsBy = generation (played commands lengths schedule)
 
-  -- A table of commands tells what reaches what over these generations: exactly what stands in the least relation.
+  -- A table of commands tells what reaches what over these generations: exactly what stands in the least relation (D2, R26).
   pub record TellsReach (ρ : ℕ → ℕ → Bool) : Type 0 where
     pub exactly : (x y : ℕ) → x < rows commands → y < rows commands → (ρ x y ≡ true) ↔ Reaches (program commands lengths) generationsBy x y
 
-  -- The verdict, of tables, a schedule, a table of what reaches what, and the lengths of the two rooms.
+  -- The verdict, of tables, a schedule, a table of what reaches what, and the lengths of the two rooms (D2, R37).
   abbrev pub verdictBy : (ℕ → ℕ → Bool) → (relationLength generationLength : ℕ) → Told
   verdictBy ρ relationLength generationLength =
       orElse (reviewRefusal commands lengths relationLength generationLength)
@@ -31,7 +31,7 @@ module _ (commands lengths schedule : List ℕ) where
 
   -- ---- as it can be computed
 
-  -- One such table, by Warshall's rounds (`RoundsTell` of Agreement), and the verdict by it.
+  -- One such table, by Warshall's rounds (`RoundsTell` of Agreement), and the verdict by it (R26, R37).
   abbrev pub reaches : ℕ → ℕ → Bool
   reaches = reach (program commands lengths) generationsBy
 

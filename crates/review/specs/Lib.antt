@@ -1,5 +1,5 @@
--- The replay is in the crate `replay`, happens-before in `order`, the faults in `faults`, their verdict and sheet in `findings`. Read here, in this order: Judge (the verdict); Agreement (the
--- three demands, and one file for one program); Examples (document 01's starred ones).
+-- The replay is in the crate `replay`, happens-before in `happens`, the faults in `faults`, their verdict and sheet in `findings`. Read here, in this order: Judge (the verdict); Agreement (the
+-- three demands, and one file for one program); Examples (the starred ones).
 pub mod Judge
 pub mod Agreement
 pub mod Examples

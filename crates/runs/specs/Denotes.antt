@@ -1,4 +1,4 @@
--- What a kernel's tables and the code's warp are in document 001's words.
+-- What a kernel's tables and the code's warp are in document 001's words (R66, R69).
 use mathlib.Core.Bool.{Bool, cond}
 use mathlib.Core.List.{List, [], _∷_}
 use Prim.Native.Nat.{ℕ}
@@ -20,7 +20,7 @@ abbrev pub listInLoop : List ℕ → (b : ℕ) → Bool
 listInLoop s b = meetsUpwards s (isWhile s) (statements s) b
 
 module _ (s e : List ℕ) where
-  -- the statement of row i
+  -- the statement of row i (R66)
   unfoldable pub stmOf : (i : ℕ) → Stm
   stmOf i =
       cond (eqb (kindOf s i) skipKind) skip
@@ -29,7 +29,7 @@ module _ (s e : List ℕ) where
       (cond (eqb (kindOf s i) whileKind) (while (expression e (xOf s i)) (yOf s i))
       (cond (eqb (kindOf s i) breakKind) break (cond (eqb (kindOf s i) callKind) (invoke (xOf s i)) return)))))
 
-  -- its lists
+  -- its lists (R66)
   abbrev pub bodiesOf : Bodies
   bodiesOf = listsOf stmOf (listOf s) (statements s)
 
@@ -43,6 +43,6 @@ module _ (s e : List ℕ) where
   items [] = []
   items (x ∷ W) = itemOf x ∷ items W
 
-  -- W, Θ, Δ, μ
+  -- a warp as W, Θ, Δ, μ (R69)
   abbrev pub configOf : Warp → Config
   configOf w = record { stack = items (w .stack); active = bitOf (w .lanes .active); off = stateOf (w .lanes); mem = w .cells }

@@ -1,5 +1,5 @@
 -- What is proved, for every lawful program P and its threads H. Theorems, in proofs/, has a proof of each under the same name in small letters.
--- `Complete` is document 01's legal and complete. One that ends at a mismatch is not clean, and no claim turns on what its last step would have done.
+-- `Complete` is legal and complete (R21). One that ends at a mismatch is not clean, and no claim turns on what its last step would have done.
 use mathlib.Core.Path.{_≡_}
 use mathlib.Core.Logic.{_⊎_, _≢_, _↔_}
 use mathlib.Core.Bool.{true, false}
@@ -25,7 +25,7 @@ module _ (P : Program) (H : Threads P) where
 
   -- ---- schedules
 
-  -- Two schedules end with the same generation for each command.
+  -- Two schedules end with the same generation for each command (D3).
   abbrev pub Alike : List ℕ → List ℕ → Type 0
   Alike τ σ = (x : ℕ) → x < size → gens P H τ x ≡ gens P H σ x
 
@@ -34,7 +34,7 @@ module _ (P : Program) (H : Threads P) where
     pub clean : Clean P H σ
     pub none : NoReuse P (gens P H σ)
 
-  -- x runs before y in a schedule.
+  -- x runs before y in a schedule (R23).
   abbrev pub Precedes : ℕ → ℕ → List ℕ → Type 0
   Precedes x y τ = Before P x y (logOf P H τ)
 
@@ -58,7 +58,7 @@ module _ (P : Program) (H : Threads P) where
 
   -- ---- agreement
 
-  -- Every two complete schedules end clean, with the same generation for each command.
+  -- Every two complete schedules end clean, with the same generation for each command (D3).
   abbrev pub Agree : Type 0
   Agree = (σ τ : List ℕ) → Complete P H σ → Complete P H τ → Clean P H σ × Clean P H τ × Alike τ σ
 
@@ -92,7 +92,7 @@ module _ (P : Program) (H : Threads P) where
   EitherFirst =
       (σ : List ℕ) → Settled σ → (x y : ℕ) → x < size → y < size → ¬ Reaches P (gens P H σ) y x → (τ : List ℕ) × Complete P H τ × Precedes x y τ
 
-  -- x and y stand in the same order in all complete schedules.
+  -- x and y stand in the same order in all complete schedules (D3).
   abbrev pub InOneOrder : ℕ → ℕ → Type 0
   InOneOrder x y = (σ τ : List ℕ) → Complete P H σ → Complete P H τ → Precedes x y σ ↔ Precedes x y τ
 

@@ -1,4 +1,4 @@
--- Schedules: which thread steps. A schedule is a list of threads, the last step first.
+-- Schedules: which thread steps (R16, R17, R19, R21, R22). A schedule is a list of threads, the last step first.
 use mathlib.Core.Path.{_≡_}
 use mathlib.Core.Bool.{true, false}
 use mathlib.Core.List.{List, [], _∷_}
@@ -7,7 +7,7 @@ use lib.Dec.{eqb}
 use Rattle.schedules.specs.Tally.{bit}
 use Rattle.schedules.specs.Machine.{Program, State, Ready, Mismatch, Matches, registered, state}
 
--- Commands belong to threads in order: thread t has the commands from low t up to, and without, high t.
+-- Commands belong to threads in order: thread t has the commands from low t up to, and without, high t (R3).
 pub record Threads (P : Program) : Type 0 where
   pub threads : ℕ
   pub thread : ℕ → ℕ
@@ -30,7 +30,7 @@ module _ (P : Program) (H : Threads P) where
   at [] t = low t
   at (u ∷ υ) t = at υ t + bit (eqb u t)
 
-  -- One step runs the next command of one thread.
+  -- One step runs the next command of one thread (R17).
   unfoldable pub logOf : List ℕ → List ℕ
   logOf [] = []
   logOf (t ∷ υ) = at υ t ∷ logOf υ
@@ -43,34 +43,34 @@ module _ (P : Program) (H : Threads P) where
   abbrev pub gens : List ℕ → ℕ → ℕ
   gens υ = after υ .gen
 
-  -- Thread t is blocked: its last command is a sync whose generation is not complete. It may have nothing left to run.
+  -- Thread t is blocked: its last command is a sync whose generation is not complete. It may have nothing left to run (R19).
   pub record Blocked (υ : List ℕ) (t : ℕ) : Type 0 where
     pub last : ℕ
     pub is-last : at υ t ≡ suc last
     pub own : low t ≤ last
     pub unready : ¬ Ready P (after υ) last
 
-  -- A step is allowed if its thread exists, has a command left and isn't blocked.
+  -- A step is allowed if its thread exists, has a command left and isn't blocked (R16).
   pub record Steps (υ : List ℕ) (t : ℕ) : Type 0 where
     pub exists : t < threads
     pub left : at υ t < high t
     pub free : ¬ Blocked υ t
 
-  -- Each step is allowed and none mismatches.
+  -- Each step is allowed and none mismatches (R21).
   abbrev pub Legal : List ℕ → Type 0
   Legal [] = Unit {0}
   Legal (t ∷ υ) = Legal υ × Steps υ t × Matches P (after υ) (at υ t)
 
-  -- No step is allowed.
+  -- No step is allowed (R21).
   abbrev pub Stops : List ℕ → Type 0
   Stops υ = (t : ℕ) → ¬ Steps υ t
 
-  -- A schedule is legal and complete if each step is allowed and it ends either at its first mismatch or where no step is allowed.
+  -- A schedule is legal and complete if each step is allowed and it ends either at its first mismatch or where no step is allowed (R21).
   pub data Complete : List ℕ → Type 0 where
     stopped : {υ : List ℕ} → Legal υ → Stops υ → Complete υ
     mismatched : {υ : List ℕ} {t : ℕ} → Legal υ → Steps υ t → Mismatch P (after υ) (at υ t) → Complete (t ∷ υ)
 
-  -- It ends clean if there was no mismatch, no thread is blocked and every barrier is unset.
+  -- It ends clean if there was no mismatch, no thread is blocked and every barrier is unset (R22).
   pub record Clean (υ : List ℕ) : Type 0 where
     pub legal : Legal υ
     pub stops : Stops υ

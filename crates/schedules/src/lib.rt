@@ -1,7 +1,7 @@
 // Schedules: what one clean schedule of a named-barrier program says of all its schedules.
 //
 // This crate is mathematics alone, and has no function. It takes any program, a number of commands of which some register at barriers, with
-// any number of threads, runs its schedules by document 01's rules, and proves:
+// any number of threads, runs its schedules by the rules (R10 to R23), and proves:
 //
 //   completion   every legal schedule goes on to a complete one
 //   all ran      what is clean has run everything
@@ -21,7 +21,7 @@
 //   Tally     counting the numbers that pass a test
 //   Machine   a program, its state, one step: registering, mismatch, completing, generations
 //   Threads   schedules of threads: blocked, allowed, legal, complete, clean
-//   Order     what reaches what, the reuse fault, and what runs before what
+//   HappensBefore  what reaches what, the reuse fault, and what runs before what
 //   Claims    every statement above as a named type, with a sentence
 //
 // proofs/Theorems has one proof for each name of Claims. The modules before it, in their order:

@@ -17,7 +17,7 @@ use Rattle.relation.specs.Bits.{bitOf}
 use Rattle.relation.proofs.Words.{or-bit, except-bit, zero-bit, bit-half, bit-zero, own-bit, other-bit, same-word}
 use Rattle.tables.specs.Lowest.{lowest}
 use Rattle.tables.proofs.Lowest.{Lowest, lowest-is}
-use Rattle.sets.specs.Words.{member, putBit, putAt}
+use Rattle.sets.specs.Words.{inWords, putBit, putAt}
 
 -- ---- one word
 
@@ -86,8 +86,8 @@ trailing-some k w h n =
 
 -- ---- a list of words
 
-pub member-none : (n t : ℕ) → member (replicate n 0) t ≡ false
-unfolding member
+pub member-none : (n t : ℕ) → inWords (replicate n 0) t ≡ false
+unfolding inWords
 member-none n t =
     by-cases (decLt (t / 64) n) (λ (h : t / 64 < n). rw (getD-replicate {A = ℕ} n (t / 64) 0 0 h) (zero-bit (t % 64)))
     (λ (h : ¬ (t / 64 < n)).
@@ -95,8 +95,8 @@ member-none n t =
     rw (List·getD-eq-default (replicate {A = ℕ} n 0) 0 l) (zero-bit (t % 64)))
 
 -- t is in it, or not, and the others as before
-pub member-put : (ws : List ℕ) (t u : ℕ) (on : Bool) → t < 64 * length ws → member (putAt ws t on) u ≡ cond (eqb u t) on (member ws u)
-unfolding member putAt
+pub member-put : (ws : List ℕ) (t u : ℕ) (on : Bool) → t < 64 * length ws → inWords (putAt ws t on) u ≡ cond (eqb u t) on (inWords ws u)
+unfolding inWords putAt
 member-put ws t u on h =
     let l : t / 64 < length ws = omega arith in
     let word = getD ws (t / 64) 0 in
@@ -110,8 +110,8 @@ member-put ws t u on h =
     rw (getD-set-other ws (t / 64) (u / 64) (putBit word (t % 64) on) 0 d, ne-eqb u t (λ s. d (ap (λ (x : ℕ). x / 64) s))))
 
 -- bit k of word i
-pub member-at : (ws : List ℕ) (i k : ℕ) → k < 64 → member ws (i * 64 + k) ≡ bitOf (getD ws i 0) k
-unfolding member
+pub member-at : (ws : List ℕ) (i k : ℕ) → k < 64 → inWords ws (i * 64 + k) ≡ bitOf (getD ws i 0) k
+unfolding inWords
 member-at ws i k h =
     let d : (i * 64 + k) / 64 ≡ i = omega arith in
     let m : (i * 64 + k) % 64 ≡ k = omega arith in

@@ -6,7 +6,7 @@ use lib.ListN.{replicate}
 use Rattle.tables.specs.Limits.{mostThreads}
 use Rattle.tables.specs.Lowest.{lowest}
 use Rattle.sets.specs.declared.Set.{Set}
-use Rattle.sets.specs.Words.{member, putAt}
+use Rattle.sets.specs.Words.{inWords, putAt}
 
 -- so many words of 64 bits
 unfoldable pub setWords : ℕ
@@ -15,12 +15,12 @@ setWords = mostThreads / 64
 
 -- is thread t in it?
 unfoldable pub has : Set → ℕ → Bool
-has s t = ltb t mostThreads && member (s .words) t
+has s t = ltb t mostThreads && inWords (s .words) t
 
 unfoldable pub none : Set
 none = record { words = replicate setWords 0 }
 
--- thread t is in it, or not; a number past the limit is no thread
+-- thread t is in it, or not; a number past the limit is no thread (R80)
 unfoldable pub put : Set → ℕ → Bool → Set
 put s t on = cond (ltb t mostThreads) (record { words = putAt (s .words) t on }) s
 

@@ -7,8 +7,8 @@ use lib.ListN.{getD, set}
 use Rattle.relation.specs.Bits.{bitOf}
 
 -- is t in it? No number past the last word is.
-unfoldable pub member : List ℕ → ℕ → Bool
-member ws t = bitOf (getD ws (t / 64) 0) (t % 64)
+unfoldable pub inWords : List ℕ → ℕ → Bool
+inWords ws t = bitOf (getD ws (t / 64) 0) (t % 64)
 
 -- a word with bit k set, or not
 unfoldable pub putBit : (word k : ℕ) → Bool → ℕ

@@ -10,7 +10,8 @@ use lib.ListN.{length, set, take, length-append}
 use borrow.Author.Tests.{lt-ltb, le-ltb}
 use Rattle.sheet.specs.declared.Pair.{Pair}
 use Rattle.sheet.specs.declared.Sheet.{Sheet}
-use Rattle.sheet.specs.Sheet.{mostKept, mostCounted, firsts, sheetOf, added, addAll}
+use Rattle.sheet.specs.Sheet.{mostKept, mostCounted, firsts, sheetOf, added}
+use Rattle.sheet.specs.Needs.{addAll}
 use Rattle.sheet.specs.Claims.{SheetTotal, KeptAre}
 
 -- ---- one pair more

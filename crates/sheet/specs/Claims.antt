@@ -5,10 +5,10 @@ use lib.ListN.{length, take}
 use Rattle.sheet.specs.declared.Pair.{Pair}
 use Rattle.sheet.specs.Sheet.{mostKept, sheetOf, keptPairs}
 
--- The total counts every pair.
+-- The total counts every pair (R34).
 abbrev pub SheetTotal : Type 0
 SheetTotal = (ps : List Pair) → sheetOf ps .total ≡ length ps
 
--- The pairs kept are the first sixteen.
+-- The pairs kept are the first sixteen (R35).
 abbrev pub KeptAre : Type 0
 KeptAre = (ps : List Pair) → keptPairs (sheetOf ps) ≡ take mostKept ps

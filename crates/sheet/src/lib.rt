@@ -1,6 +1,6 @@
 // The fault sheet: the first pairs that are found are kept, and later ones only raise the total.
 ghost use mathlib.Core.Path.{_≡_};
-ghost use Rattle.sheet.specs.Sheet.{counted};
+ghost use Rattle.sheet.specs.Sheet.{raised};
 ghost use Rattle.sheet.specs.Promise.{AnswersKept, AnswersEmpty, AddsPair};
 
 pub struct Pair {
@@ -15,7 +15,7 @@ pub struct Sheet {
 
 // A total with one pair more; at the largest number of its type it stays.
 fn one_more(total: usize) -> usize
-    ensures { λ r. ⌜ r ≡ counted total ⌝ }
+    ensures { λ r. ⌜ r ≡ raised total ⌝ }
 {
     if total < usize::MAX {
         return total + 1;

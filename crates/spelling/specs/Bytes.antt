@@ -1,4 +1,4 @@
--- Classes of bytes, and runs of bytes.
+-- Classes of bytes, and runs of bytes (R43).
 use mathlib.Core.Bool.{Bool, cond, _&&_, _||_}
 use mathlib.Core.List.{List, [], _∷_}
 use Prim.Native.Nat.{ℕ, suc}
@@ -17,7 +17,7 @@ digit = 2
 abbrev pub other : ℕ
 other = 3
 
--- spaces (32) and newlines (10); lower-case letters (97 to 122); digits (48 to 57)
+-- blanks are spaces, 32, and newlines, 10; letters are lower-case ones, 97 to 122; digits are 48 to 57 (R43)
 unfoldable pub classOf : ℕ → ℕ
 classOf b =
     cond (eqb b 32 || eqb b 10) blank (cond (leb 97 b && leb b 122) letter (cond (leb 48 b && leb b 57) digit other))
@@ -26,12 +26,12 @@ classOf b =
 abbrev pub is : ℕ → ℕ → Bool
 is k b = eqb (classOf b) k
 
--- how many bytes that pass a test the bytes begin with
+-- how many bytes that pass a test the bytes begin with (R43)
 unfoldable pub run : (ℕ → Bool) → List ℕ → ℕ
 run p [] = 0
 run p (b ∷ s) = cond (p b) (suc (run p s)) 0
 
--- how many blanks the bytes begin with, and the bytes from there on
+-- how many blanks the bytes begin with, and the bytes from there on (R43)
 abbrev pub blanks : List ℕ → ℕ
 blanks s = run (is blank) s
 

@@ -6,6 +6,6 @@ use Prim.Native.Nat.{ℕ}
 use Rattle.spelling.specs.declared.number.Numeral.the-variants.{Number}
 use Rattle.spelling.specs.Numbers.{Means, numeralOf}
 
--- Bytes are read as a number exactly when they mean it.
+-- Bytes are read as a number exactly when they mean it (R45).
 abbrev pub NumberExactly : Type 0
 NumberExactly = (w : List ℕ) (n : ℕ) → (numeralOf w ≡ Number n) ↔ Means w n

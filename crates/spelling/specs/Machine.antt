@@ -13,7 +13,7 @@ pub record Row : Type 0 where
 abbrev pub row : ℕ → ℕ → ℕ → Row
 row k n c = record { kind = k; name = n; count = c }
 
--- rows as numbers, three a row
+-- rows as numbers, three a row (R2)
 unfoldable pub flat : List Row → List ℕ
 flat [] = []
 flat (r ∷ rs) = r .kind ∷ r .name ∷ r .count ∷ flat rs

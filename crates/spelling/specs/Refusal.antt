@@ -1,4 +1,4 @@
--- Where a text is refused, over any notation: which tokens it has, which bytes spell which tokens, and which tokens make a whole text.
+-- Where a text is refused, over any notation: which tokens it has, which bytes spell which tokens, and which tokens make a whole text (R48).
 use mathlib.Core.Path.{_≡_}
 use mathlib.Core.List.{List, [], _∷_, _++_}
 use Prim.Native.Nat.{ℕ, _≤_}
@@ -11,7 +11,7 @@ Follows {T} ts before (t ∷ rest) = (more : List T) × (ts ≡ before ++ (t ∷
 
 module _ {T : Type 0} (Spells : List ℕ → List T → Type 0) (Whole : List T → Type 0) where
   -- a text with these tokens, which stand at these places, is refused at place p: the tokens before p begin a text of the notation, and with the token at p, or the
-  -- end there, they do not
+  -- end there, they do not (R48)
   pub record Refused (text : List ℕ) (tokens : List T) (starts : List ℕ) (p : ℕ) : Type 0 where
     -- so many tokens stand before p
     pub before : ℕ

@@ -1,4 +1,4 @@
--- The tokens of a text: spaces and newlines may stand between them. What token the bytes begin with, and how many bytes it takes, each notation says.
+-- The tokens of a text: spaces and newlines may stand between them (R43). What token the bytes begin with, and how many bytes it takes, each notation says.
 use mathlib.Core.Bool.{cond}
 use mathlib.Core.List.{List, [], _∷_, map}
 use Prim.Native.Nat.{ℕ, zero, suc, _+_}
@@ -29,10 +29,10 @@ module _ (size : List ℕ → ℕ) where
   abbrev pub spots : List ℕ → ℕ → List Spot
   spots s p = spotsN (length s) s p
 
-  -- the places of the tokens
+  -- the places of the tokens (R43)
   abbrev pub starts : List ℕ → ℕ → List ℕ
   starts s p = map (λ (c : Spot). c .place) (spots s p)
 
-  -- the tokens
+  -- the tokens (R43)
   abbrev pub tokens : {T : Type 0} → (List ℕ → T) → List ℕ → List T
   tokens token s = map (λ (c : Spot). token (c .bytes)) (spots s 0)

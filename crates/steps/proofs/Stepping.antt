@@ -16,7 +16,6 @@ use Rattle.tables.specs.Limits.{mostThreads}
 use Rattle.tables.specs.Rows.{firstRow}
 use Rattle.tables.proofs.Rows.{first-none, first-next}
 use Rattle.turns.specs.Turns.{letGo, released, settled}
-use Rattle.barriers.specs.declared.barrier.Phase.the-variants.{Unset}
 use Rattle.steps.specs.declared.change.Change.{Change}
 use Rattle.steps.specs.declared.row.Row.{Row}
 use Rattle.steps.specs.declared.state.Replay.{Replay}

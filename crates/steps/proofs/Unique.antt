@@ -1,15 +1,13 @@
 -- Two answers that meet the contract of a public function for the same inputs are equal. Assumes nothing.
-use mathlib.Core.Path.{_≡_, sym, ap, _∙_}
+use mathlib.Core.Path.{_≡_, sym, _∙_}
 use mathlib.Core.Bool.{Bool}
-use mathlib.Core.List.{List, _++_}
+use mathlib.Core.List.{List}
 use Prim.Native.Nat.{ℕ}
-use lib.ListN.{length, drop}
 use Rattle.verdicts.specs.declared.Verdict.{Verdict}
 use Rattle.verdicts.proofs.Verdicts.{numbered-one}
 use Rattle.steps.specs.declared.going.Replayed.{Replayed}
 use Rattle.steps.specs.declared.state.Replay.{Replay}
 use Rattle.steps.specs.declared.step.Stepped.{Stepped}
-use Rattle.steps.specs.Writing.{writes}
 use Rattle.steps.specs.Promise.{AnswersReplayStart, AnswersStep, AnswersReplayedStart, AnswersGoOn, AnswersEnding, WritesOn}
 
 pub start-one : {r s : Replay} → AnswersReplayStart r → AnswersReplayStart s → r ≡ s

@@ -13,7 +13,7 @@ use Rattle.steps.specs.State.{waiting, barrierAt}
 use Rattle.steps.specs.Step.{registering}
 use Rattle.steps.specs.Going.{goOn}
 
--- With count 1 a sync never stays blocked.
+-- With count 1 a sync never stays blocked (R12).
 abbrev pub CountOne : Type 0
 CountOne = (s : Replay) (t c b : ℕ) → barrierAt s b .phase ≡ Unset → t < length (s .waits) → waiting (registering s t c true b 1 .after) t ≡ 0
 
@@ -22,6 +22,6 @@ module _ (commands lengths : List ℕ) where
   abbrev pub GoOnJoined : Type 0
   GoOnJoined = (σ τ : List ℕ) (r : Replayed) → goOn commands lengths (σ ++ τ) r ≡ goOn commands lengths τ (goOn commands lengths σ r)
 
-  -- Where a replay has ended, nothing changes.
+  -- Where a replay has ended, nothing changes (R20).
   abbrev pub StaysEnded : Type 0
   StaysEnded = (r : Replayed) → numbered (r .verdict) .number ≢ 0 → (σ : List ℕ) → goOn commands lengths σ r ≡ r

@@ -3,7 +3,8 @@ use mathlib.Core.Path.{_≡_}
 use mathlib.Core.Bool.{Bool, true, false, cond}
 use mathlib.Core.List.{List}
 use Prim.Native.Nat.{ℕ, _+_, _<_}
-use lib.ListN.{getD, set}
+use lib.ListN.{length, getD, set}
+use Rattle.tables.specs.Lowest.{lowest}
 use Rattle.tables.specs.Rows.{name, count, firstRow, syncs}
 use Rattle.turns.specs.Turns.{settled, mayGo}
 use Rattle.barriers.specs.declared.barrier.Barrier.{Barrier}
@@ -19,6 +20,7 @@ use Rattle.barriers.specs.Counting.{counted}
 use Rattle.barriers.specs.Barrier.{registration}
 use Rattle.steps.specs.State.{ranSoFar}
 use Rattle.steps.specs.Step.{enters}
+use Rattle.steps.specs.Writing.{picked}
 
 -- ---- what a step changes: three numbers of the state, and one barrier; each function that makes steps stores just that
 
@@ -75,3 +77,9 @@ far = 17592186044416
 pub record FirstRows (lengths : List ℕ) (n : ℕ) (firsts : List ℕ) : Type 0 where
   pub each : (t : ℕ) → t < n → getD firsts t 0 ≡ firstRow lengths t
   pub small : (t : ℕ) → getD firsts t 0 < far
+
+-- ---- who goes first
+
+-- the lowest thread that may step and whose next command goes first, or the number of threads
+abbrev pub lowestPicked : (ℕ → Bool) → List ℕ → Replay → ℕ
+lowestPicked early lengths s = lowest (picked early lengths s) (length lengths)

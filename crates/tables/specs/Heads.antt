@@ -1,4 +1,4 @@
--- A room that tells, for each row, where its thread begins.
+-- A room that tells, for each row, where its thread begins (R3).
 use mathlib.Core.Path.{_≡_}
 use mathlib.Core.Bool.{Bool}
 use mathlib.Core.List.{List}
@@ -7,7 +7,7 @@ use lib.Dec.{eqb}
 use lib.ListN.{length, getD}
 use Rattle.tables.specs.Rows.{firstRow, threadOf}
 
--- where the thread of row c begins; for rows past all lengths that is where the lengths end
+-- where the thread of row c begins (R3); for rows past all lengths that is where the lengths end (R80)
 abbrev pub headOf : List ℕ → ℕ → ℕ
 headOf lengths c = firstRow lengths (threadOf lengths c)
 

@@ -1,4 +1,4 @@
--- The sets that a schedule writer keeps, so that no thread need be looked at twice.
+-- The sets that a schedule writer keeps, so that no thread need be looked at twice (R24, R62).
 use mathlib.Core.Bool.{Bool, cond, not, _&&_}
 use mathlib.Core.List.{List}
 use Prim.Native.Nat.{ℕ, zero, suc}
@@ -27,6 +27,6 @@ heldBelow waits (suc k) = put (heldBelow waits k) k (held waits k)
 abbrev pub heldAfter : List ℕ → (threads t wait frees : ℕ) → Set → Set
 heldAfter waits threads t wait frees blocked = cond (eqb frees 0) (put blocked t (not (eqb wait 0))) (heldBelow waits threads)
 
--- the lowest thread that is not blocked and goes first, or else the lowest that is not blocked and has a command left, or the limit
+-- the lowest thread that is not blocked and goes first, or else the lowest that is not blocked and has a command left, or the limit (R24, R62)
 abbrev pub chosen : Ready → Set → ℕ
 chosen r blocked = lowestOr (hasBut (r .first) blocked) (hasBut (r .left) blocked) mostThreads

@@ -1,11 +1,11 @@
--- The language of document 001, 3.1: expressions, statements, statement lists. A body of an `if` or a `while`, and a function, is named by the number of its list.
+-- The language of document 001, 3.1: expressions, statements, statement lists. A body of an `if` or a `while`, and a function, is named by the number of its list (R66, R67).
 use mathlib.Core.Bool.{Bool, not, cond}
 use mathlib.Core.List.{List}
 use Prim.Native.Nat.{ℕ, _+_, _-_, _%_, _^_}
 use lib.Dec.{eqb, ltb}
 use lib.ListN.{getD}
 
--- e: a number, a cell, the number of the lane; sum, difference and less-than of two expressions
+-- e: a number, a cell, the number of the lane; sum, difference and less-than of two expressions (R67)
 pub data Expr : Type 0 where
   literal : ℕ → Expr
   cell : ℕ → Expr
@@ -14,7 +14,7 @@ pub data Expr : Type 0 where
   minus : Expr → Expr → Expr
   less : Expr → Expr → Expr
 
--- s: `again` is the underlined while, a loop that has begun, and `invoke` is f ()
+-- s: `again` is the underlined while, a loop that has begun, and `invoke` is f () (R66)
 pub data Stm : Type 0 where
   skip : Stm
   assign : (c : ℕ) → Expr → Stm
@@ -33,7 +33,7 @@ Bodies = ℕ → List Stm
 abbrev pub Mem : Type 0
 Mem = List ℕ
 
--- ℰ⟦e⟧ for a lane, over 32 bits: sum and difference wrap, and less-than is 1 or 0
+-- ℰ⟦e⟧ for a lane, over 32 bits: sum and difference wrap, and less-than is 1 or 0 (R67)
 unfoldable pub eval : Expr → (t : ℕ) → Mem → ℕ
 eval (literal n) t μ = n
 eval (cell c) t μ = getD μ c 0

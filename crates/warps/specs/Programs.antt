@@ -1,4 +1,4 @@
--- Prog of document 001, 3.1: statement lists without `again`, and with `break` only within `while` loops. `looped b` says that list b lies in a loop of its own function.
+-- Prog of document 001, 3.1: statement lists without `again`, and with `break` only within `while` loops. `looped b` says that list b lies in a loop of its own function (R71).
 use mathlib.Core.Path.{_≡_}
 use mathlib.Core.Bool.{Bool, true, false}
 use mathlib.Core.List.{List, [], _∷_}
@@ -23,7 +23,7 @@ AllMayStand looped inside (s ∷ S) = MayStand looped inside s × AllMayStand lo
 abbrev pub Confined : Bodies → (ℕ → Bool) → Type 0
 Confined body looped = (b : ℕ) → AllMayStand looped (looped b) (body b)
 
--- every list is a program's, and the kernel lies in no loop
+-- every list is a program's, and the kernel lies in no loop (R71)
 pub record Prog (body : Bodies) (looped : ℕ → Bool) (kernel : ℕ) : Type 0 where
   pub lists : Confined body looped
   pub outside : looped kernel ≡ false

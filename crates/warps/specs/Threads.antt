@@ -1,4 +1,4 @@
--- Table 4 of document 001: a single thread, which is one lane by itself, and threads that interleave.
+-- Table 4 of document 001: a single thread, which is one lane by itself, and threads that interleave (R73).
 use mathlib.Core.Path.{_≡_}
 use mathlib.Core.Bool.{Bool, true, false, cond}
 use mathlib.Core.List.{List, [], _∷_, _++_}
@@ -28,7 +28,7 @@ callFree (does s ∷ T) = callFree T
 callFree (ctx brk-c ∷ T) = callFree T
 callFree (ctx call-c ∷ T) = false
 
--- T, μ ⇒ᵗ T′, μ′ of thread t. An assignment takes two steps: it reads, and then writes what it read.
+-- T, μ ⇒ᵗ T′, μ′ of thread t. An assignment takes two steps: it reads, and then writes what it read (R73).
 pub data ThreadStep (body : Bodies) (t : ℕ) : List Piece → Mem → List Piece → Mem → Type 0 where
   -- (skip)  ; ⇒ ε
   skip-t : {T : List Piece} {μ : Mem} → ThreadStep body t (does skip ∷ T) μ T μ
@@ -62,7 +62,7 @@ ThreadStacks = ℕ → List Piece
 unfoldable pub become : ThreadStacks → (t : ℕ) → List Piece → ThreadStacks
 become ς t T u = cond (eqb t u) T (ς u)
 
--- ς, μ ⇒ⁱ* ς′, μ′: none, one or more steps, each of one of the n threads
+-- ς, μ ⇒ⁱ* ς′, μ′: none, one or more steps, each of one of the n threads (R73)
 pub data Interleaved (body : Bodies) (n : ℕ) : ThreadStacks → Mem → ThreadStacks → Mem → Type 0 where
   none : {ς : ThreadStacks} {μ : Mem} → Interleaved body n ς μ ς μ
   next : {ς ρ : ThreadStacks} {μ ν ξ : Mem} (t : ℕ) {T : List Piece} → t < n → ThreadStep body t (ς t) μ T ν → Interleaved body n (become ς t T) ν ρ ξ → Interleaved body n ς μ ρ ξ

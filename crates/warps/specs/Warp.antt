@@ -1,4 +1,4 @@
--- Table 2 of document 001: a warp of n lanes, and its step, rule by rule.
+-- Table 2 of document 001: a warp of n lanes, and its step, rule by rule (R69).
 use mathlib.Core.Path.{_≡_}
 use mathlib.Core.Bool.{Bool, true, false, _&&_, not, cond}
 use mathlib.Core.List.{List, [], _∷_}
@@ -7,11 +7,11 @@ use lib.Dec.{ltb}
 use lib.ListN.{set}
 use Rattle.warps.specs.Language.{Expr, Stm, skip, assign, branch, while, again, break, invoke, return, Bodies, Mem, eval, test}
 
--- t
+-- t: the type of a token (R69)
 pub data TokenType : Type 0 where
   div sync brk call : TokenType
 
--- δ: 0, b or r
+-- δ: 0, b or r, for each lane (R69)
 pub data DisableState : Type 0 where
   on broke returned : DisableState
 
@@ -33,7 +33,7 @@ unfoldable pub onto : List Stm → List Item → List Item
 onto [] W = W
 onto (s ∷ S) W = stm s ∷ onto S W
 
--- W, Θ, Δ, μ
+-- W, Θ, Δ, μ: stack, active mask, disable states, memory (R69)
 pub record Config : Type 0 where
   pub stack : List Item
   pub active : Mask
@@ -80,7 +80,7 @@ nobody t = false
 abbrev pub disable : Mask → DisableState → DisableMask → DisableMask
 disable Θ d Δ t = cond (Θ t) d (Δ t)
 
--- μ{x ↦ ℰ⟦e⟧ of the lanes in Θ}: each evaluates in μ; they write in the order of their numbers, so that of several lanes the highest one's value stays
+-- μ{x ↦ ℰ⟦e⟧ of the lanes in Θ}: each evaluates in μ; they write in the order of their numbers, so that of several lanes the highest one's value stays (R69)
 unfoldable pub updated : (n : ℕ) → Mask → (c : ℕ) → Expr → Mem → Mem
 updated zero Θ c e μ = μ
 updated (suc n) Θ c e μ = cond (Θ n) (set (updated n Θ c e μ) c (eval e n μ)) (updated n Θ c e μ)
@@ -92,7 +92,7 @@ SomeActive n Θ = (t : ℕ) × (t < n) × (Θ t ≡ true)
 abbrev pub NoneActive : ℕ → Mask → Type 0
 NoneActive n Θ = (t : ℕ) → t < n → Θ t ≡ false
 
--- W, Θ, Δ, μ ⇒ʷ W′, Θ′, Δ′, μ′: the printed rules, with what they leave out written in: the rest of the stack, W, and all that stays
+-- W, Θ, Δ, μ ⇒ʷ W′, Θ′, Δ′, μ′: the printed rules, with what they leave out written in: the rest of the stack, W, and all that stays (R69)
 pub data WarpStep (body : Bodies) (n : ℕ) : List Item → Mask → DisableMask → Mem → List Item → Mask → DisableMask → Mem → Type 0 where
   -- (skip)  ; , Θ⁺ ⇒ ε, Θ⁺
   skip-w : {W : List Item} {Θ : Mask} {Δ : DisableMask} {μ : Mem} → SomeActive n Θ
@@ -139,7 +139,7 @@ pub data WarpStep (body : Bodies) (n : ℕ) : List Item → Mask → DisableMask
 abbrev pub Transition : Bodies → ℕ → Config → Config → Type 0
 Transition body n c c′ = WarpStep body n (c .stack) (c .active) (c .off) (c .mem) (c′ .stack) (c′ .active) (c′ .off) (c′ .mem)
 
--- the initial configuration of the program in a list: all n lanes are active, and one call token lies at the bottom
+-- the initial configuration of the program in a list: all n lanes are active, and one call token lies at the bottom (R69)
 abbrev pub initial : Bodies → (n k : ℕ) → Mem → Config
 initial body n k μ = record { stack = onto (body k) (tok call (λ t. ltb t n) ∷ []); active = λ t. ltb t n; off = λ t. on; mem = μ }
 

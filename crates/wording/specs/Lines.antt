@@ -1,4 +1,4 @@
--- The lines: what a schedule shows, in words, and the schedule, each closed by a newline.
+-- The lines: what a schedule shows, in words, and the schedule, each closed by a newline (R63).
 use mathlib.Core.Bool.{cond}
 use mathlib.Core.List.{List, [], _∷_, _++_}
 use Prim.Native.Nat.{ℕ}
@@ -46,6 +46,7 @@ moreWord = space ∷ 115 ∷ 116 ∷ 105 ∷ 108 ∷ 108 ∷ space ∷ 119 ∷ 9
 
 -- ---- what a schedule shows
 
+-- the line in words (R63)
 unfoldable pub shownLine : Shown → List ℕ
 shownLine (First x y) = commandWord ++ figures x ++ firstWord ++ figures y ++ lineEnd
 shownLine (Generation c g h) = commandWord ++ figures c ++ getsWord ++ figures g ++ notWord ++ figures h ++ lineEnd
@@ -59,7 +60,7 @@ shownLine (LeftSet b) = barrierWord ++ figures b ++ moreWord
 abbrev pub partedBy : ℕ → ℕ
 partedBy left = cond (eqb left 0) newline space
 
--- the threads in their order; no schedule that shows something is empty, and of the empty one there is no line
+-- the threads in their order; no schedule that shows something is empty, and of the empty one there is no line (R63)
 unfoldable pub stepsLine : List ℕ → List ℕ
 stepsLine [] = []
 stepsLine (t ∷ σ) = figures t ++ partedBy (length σ) ∷ stepsLine σ

@@ -5,7 +5,8 @@ use Prim.Native.Nat.{_-_, min}
 use native.Mathlib.Omega.{arith}
 use Rattle.tables.specs.Limits.{mostRows}
 use Rattle.tables.specs.Rows.{rows}
-use Rattle.sheet.specs.Sheet.{mostKept, mostCounted, added, addAll}
+use Rattle.sheet.specs.Sheet.{mostKept, mostCounted, added}
+use Rattle.sheet.specs.Needs.{addAll}
 use Rattle.sheet.proofs.Sheets.{added-full}
 use Rattle.faults.specs.Faults.{pairOf}
 use Rattle.findings.proofs.Searching.{none-added, one-added}
