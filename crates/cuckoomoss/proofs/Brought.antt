@@ -3,7 +3,7 @@ use mathlib.Core.Path.{_≡_, subst}
 use mathlib.Core.List.{List}
 use Prim.Native.Nat.{ℕ}
 use Rattle.io.specs.Counts.{Counts}
-use Rattle.cuckoomoss.specs.Input.{CameWithin}
+use Rattle.cuckoomoss.specs.Needs.{CameWithin}
 use Rattle.cuckoomoss.specs.declared.input.Came.{Came}
 use Rattle.cuckoomoss.specs.declared.input.Came.the-variants.{Bytes}
 

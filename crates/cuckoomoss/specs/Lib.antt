@@ -1,3 +1,3 @@
--- Read Printed (what is printed). By itself: Input (what has come from standard input).
-pub mod Input
+-- Read Printed (what is printed). By itself: Needs (what has come from standard input).
 pub mod Printed
+pub mod Needs

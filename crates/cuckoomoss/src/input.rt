@@ -1,5 +1,5 @@
 // A text from a descriptor.
-ghost use Rattle.cuckoomoss.specs.Input.{CameWithin};
+ghost use Rattle.cuckoomoss.specs.Needs.{CameWithin};
 use notation::Text;
 
 pub(crate) struct Input;

@@ -1,4 +1,4 @@
--- What the contracts of `input` cite.
+-- What the parts that read standard input pass on; nothing public speaks of it.
 use mathlib.Core.List.{List}
 use Prim.Native.Nat.{ℕ}
 use Rattle.io.specs.Counts.{Counts}
