@@ -1,6 +1,6 @@
 // Reads one text from standard input and prints its report, with evidence where `--evidence` asks for it. An error of reading or writing is told on standard error, and is
 // never taken for an end.
-ghost use Rattle.cuckoomoss.specs.Printed.{AnswersBeforeZero};
+ghost use Rattle.cuckoomoss.specs.Printed.{AnswersBeforeZero, HoldsReport, HoldsExhibits};
 use asked::Wanted;
 use asked::asked;
 use desk::Report;
@@ -28,26 +28,54 @@ fn before_zero(room: &[u8]) -> usize
     i
 }
 
-// Prints what a review wrote into its room.
-fn print_written(room: &[u8]) {
-    let n = before_zero(room);
-    if !io::write_all(STDOUT_FILENO, &room[..n]) {
+// The report of a text: the first `length` of these bytes.
+struct Output {
+    bytes: [u8; Report::BYTES],
+    length: usize,
+}
+
+// Reviews a text into a room of zeros, of the size that the text review asks for.
+fn report_of(text: &[u8]) -> Output
+    ensures { λ r. ⌜ HoldsReport (now (text .entry)) (r .bytes) (r .length) ⌝ }
+{
+    let mut bytes = [0u8; Report::BYTES];
+    desk::review_text(text, &mut bytes);
+    let length = before_zero(&bytes);
+    Output { bytes, length }
+}
+
+// The same with evidence.
+struct LongOutput {
+    bytes: [u8; Report::EVIDENCE_BYTES],
+    length: usize,
+}
+
+fn evidence_of(text: &[u8]) -> LongOutput
+    ensures { λ r. ⌜ HoldsExhibits (now (text .entry)) (r .bytes) (r .length) ⌝ }
+{
+    let mut bytes = [0u8; Report::EVIDENCE_BYTES];
+    desk::review_text_evidence(text, &mut bytes);
+    let length = before_zero(&bytes);
+    LongOutput { bytes, length }
+}
+
+// That these bytes come out, once, no contract can say: the tests compare them.
+fn put_out(bytes: &[u8]) {
+    if !io::write_all(STDOUT_FILENO, bytes) {
         os::fail(b"writing the report");
     }
 }
 
-// Reviews a text and prints the report, from a room of the size that the text review asks for.
 fn print_review(text: &[u8]) {
-    let mut report = [0u8; Report::BYTES];
-    desk::review_text(text, &mut report);
-    print_written(&report);
+    let report = report_of(text);
+    let bytes = report.bytes;
+    put_out(&bytes[..report.length]);
 }
 
-// The same with evidence.
 fn print_evidence(text: &[u8]) {
-    let mut report = [0u8; Report::EVIDENCE_BYTES];
-    desk::review_text_evidence(text, &mut report);
-    print_written(&report);
+    let report = evidence_of(text);
+    let bytes = report.bytes;
+    put_out(&bytes[..report.length]);
 }
 
 fn print(text: &[u8], evidence: bool) {
