@@ -141,6 +141,18 @@ def brought(text):
     return names
 
 
+LIBRARY_USE = re.compile(r"\buse ((?!Rattle\.)[^\s;{]+|Rattle\.std\.[^\s;{]+)(\{[^}]*\})?", re.S)
+
+
+def from_a_library(text):
+    """The names that a file brings in from a library: they stay."""
+    names = set()
+    for m in LIBRARY_USE.finditer(text):
+        names.update(WORD.findall(m[2] or ""))
+        names.update([] if m[2] else [m[1].split(".")[-1]])
+    return names
+
+
 def turned(text, table):
     return WORD.sub(lambda m: table.get(m[0], m[0]), text)
 
@@ -205,6 +217,8 @@ def main():
         elif what == "rt":
             here = brought(text) | fields
             mine = {old: new for old, new in table.items() if old in here}
+        stay = from_a_library(text)
+        mine = {old: new for old, new in mine.items() if old not in stay}
         if what in ("specs", "lemmas", "function"):
             new = with_primes(realigned(text, outside(ANTT_QUIET, text, lambda t: turned(t, mine), table)))
             words = set(WORD.findall(ANTT_QUIET.sub("", text)))

@@ -1,7 +1,7 @@
 -- Rows done one after the other. Assumes nothing.
 use Prim.Native.Nat.{ℕ, ◌+◌, ◌*◌, ◌/◌, ◌≤◌, ◌<◌}
 use native.Mathlib.Nat.{mul-le-mul_right, suc-mul}
-use native.Mathlib.Numerals.{add_one}
+use native.Mathlib.Numerals.{add-one}
 use native.Mathlib.Omega.{arith}
 use native.Mathlib.Decide.{ℕ_discrete}
 use mathlib.Core.Path.{◌≡◌, refl, sym, ap, ◌∙◌}
@@ -25,7 +25,7 @@ rows_more b r s w i f g R N e =
           by_cases (ℕ_discrete i x) (λ (q : i ≡ x). rw (sym q) (N.bits j hj ∙ e j hj))
           (λ (n : i ≢ x). other_row r s w i x j N.outside n hj ∙ R.bits x j (omega arith) hj);
       kept = λ p h.
-          let g : i * w + w ≤ p = omega (arith, suc-mul i w, ap (λ (x : ℕ). x * w) (add_one i)) in
+          let g : i * w + w ≤ p = omega (arith, suc-mul i w, ap (λ (x : ℕ). x * w) (add-one i)) in
           N.outside p (inr g) ∙ R.kept p (omega arith);
     }
 

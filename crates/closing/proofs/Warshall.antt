@@ -1,11 +1,11 @@
 -- One round of Warshall's, row after row, and round after round. Assumes nothing.
 use Prim.Native.Nat.{ℕ, ◌+◌, ◌*◌, ◌≤◌, ◌<◌}
-use native.Mathlib.Numerals.{add_one}
+use native.Mathlib.Numerals.{add-one}
 use native.Mathlib.Omega.{arith}
 use native.Mathlib.Decide.{dec_lt}
 use mathlib.Core.Path.{◌≡◌, refl, sym, ap₂, ◌∙◌}
 use mathlib.Core.Logic.{by_cases}
-use mathlib.Core.Bool.{Bool, true, false, ◌&&◌, ◌||◌, or_false, and-false}
+use mathlib.Core.Bool.{Bool, true, false, ◌&&◌, ◌||◌, or-false, and-false}
 use mathlib.Core.List.{List}
 use lib.ListN.{length}
 use Rattle.relation.specs.Chains.{rounds}
@@ -29,7 +29,7 @@ module _ (r : List ℕ) (m i k : ℕ) (there : inside (length r) m i k ≡ true)
       record { len = N.len; bits = λ j h. N.bits j h ∙ rw (sym bit_k ∙ e); outside = N.outside }
 
   pub kept_if : related r m i k ≡ false → RowIs r r (width m) i (joined_if r (width m) k i)
-  kept_if e = record { len = refl; bits = λ j h. rw (sym bit_k ∙ e, or_false); outside = λ p h. refl }
+  kept_if e = record { len = refl; bits = λ j h. rw (sym bit_k ∙ e, or-false); outside = λ p h. refl }
 
 absorb : (x y : Bool) → x || (y && x) ≡ x
 absorb true y = refl
@@ -61,7 +61,7 @@ round_next b r s w m k hk hm R S =
     record {
       len = S.len ∙ R.len;
       bits = λ i j hi hj.
-          rw (add_one, rounds_suc)
+          rw (add-one, rounds_suc)
           (S.bits i j hi hj ∙ ap₂ ◌||◌ (R.bits i j hi hj) (ap₂ ◌&&◌ (R.bits i k hi (omega arith)) (R.bits k j hk hj)));
       kept = λ p h. S.kept p h ∙ R.kept p h;
     }

@@ -4,7 +4,7 @@ use mathlib.Core.Bool.{Bool}
 use mathlib.Core.List.{List, [], ◌∷◌, ◌++◌, append-nil, append_assoc}
 use Prim.Native.Nat.{ℕ, suc, ◌+◌, ◌*◌, ◌-◌, ◌≤◌, ◌<◌}
 use native.Mathlib.Nat.{mul-le-mul_right, suc-mul}
-use native.Mathlib.Numerals.{add_one}
+use native.Mathlib.Numerals.{add-one}
 use native.Mathlib.Omega.{arith}
 use lib.ListN.{length, get_or, take, drop, length-append, length-drop, take-append-drop}
 use lib.Seq.{length-take-le, drop-length, drop-drop, drop-cons, drop-append-add, take_at, get_or-take}
@@ -147,13 +147,13 @@ module _ (commands lengths : List ℕ) (ρ : ℕ → ℕ → Bool) (pairs : List
               let b = second_first commands lengths ρ p in
               let few = length-take-le n pairs R.all.few in
               let s : drop k (take n pairs) ≡ p ∷ drop (k + 1) (take n pairs) =
-              rw add_one (drop-cons (take n pairs) k (pair 0 0) (omega arith) ∙ ap (λ (q : Pair). q ∷ drop (suc k) (take n pairs)) (get_or-take n pairs k (pair 0 0) l)) in
+              rw add-one (drop-cons (take n pairs) k (pair 0 0) (omega arith) ∙ ap (λ (q : Pair). q ∷ drop (suc k) (take n pairs)) (get_or-take n pairs k (pair 0 0) l)) in
               let rest = both_ways commands lengths ρ (drop (k + 1) (take n pairs)) in
               record {
                 all = R.all;
                 front = (R.front ++ a) ++ b;
                 fronted = front_more half B;
-                few = omega (arith, half_few, R.few, B.ends, apart_few commands lengths ρ p.first p.second, suc-mul k (rows commands), ap (λ (i : ℕ). i * rows commands) (add_one k));
+                few = omega (arith, half_few, R.few, B.ends, apart_few commands lengths ρ p.first p.second, suc-mul k (rows commands), ap (λ (i : ℕ). i * rows commands) (add-one k));
                 within = omega arith;
                 rest_is =
                     R.rest_is ∙ ap (λ (ps : List Pair). R.front ++ both_ways commands lengths ρ ps) s

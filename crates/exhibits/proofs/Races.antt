@@ -3,7 +3,7 @@ use mathlib.Core.Path.{◌≡◌, ap, ◌∙◌}
 use mathlib.Core.Bool.{Bool}
 use mathlib.Core.List.{List, [], ◌∷◌, ◌++◌}
 use Prim.Native.Nat.{ℕ, suc, ◌+◌, ◌≤◌, ◌<◌}
-use native.Mathlib.Numerals.{add_one}
+use native.Mathlib.Numerals.{add-one}
 use native.Mathlib.Omega.{arith}
 use lib.ListN.{length, get_or, take, drop}
 use lib.Seq.{drop-cons, length-take-le, get_or-take}
@@ -23,7 +23,7 @@ module _ (commands lengths : List ℕ) (ρ : ℕ → ℕ → Bool) (ps : List Pa
   races_next l =
       let e : drop k (take n ps) ≡ p ∷ drop (suc k) (take n ps) =
       drop-cons (take n ps) k (pair 0 0) (omega (arith, length-take-le n ps few)) ∙ ap (λ (q : Pair). q ∷ drop (suc k) (take n ps)) (get_or-take n ps k (pair 0 0) l) in
-      rw add_one (ap (race_exhibits commands lengths ρ) e)
+      rw add-one (ap (race_exhibits commands lengths ρ) e)
 
   pub races_end : n ≤ k → race_exhibits commands lengths ρ (drop k (take n ps)) ≡ []
   unfolding race_exhibits

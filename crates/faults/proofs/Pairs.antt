@@ -5,7 +5,7 @@ use mathlib.Core.Bool.{Bool, true, false, cond, not}
 use mathlib.Core.List.{List, [], ◌∷◌, ◌++◌, append_assoc, append-nil}
 use Prim.Native.Nat.{ℕ, zero, suc, ◌+◌, ◌-◌, ◌≤◌, ◌<◌}
 use native.Mathlib.Decide.{dec_lt, ℕ_discrete}
-use native.Mathlib.Numerals.{add_one}
+use native.Mathlib.Numerals.{add-one}
 use native.Mathlib.Omega.{arith}
 use lib.ListN.{length, get_or, length-append}
 use borrow.Author.Tests.{eqb-true, eqb-false, eq-eqb, ne_eqb, ltb-true, lt-ltb, not-true}
@@ -188,8 +188,8 @@ module _ (commands lengths : List ℕ) (g : ℕ → ℕ) where
         let (r, e₁) = both _ _ e in
         let (s, e₂) = both _ _ e₁ in
         let (a, b) = both _ _ e₂ in
-        record { low₁ = l₁; low₂ = l₂; reg₁ = r; reg₂ = s; at = eqb-true _ _ a; gen = sym (eqb-true _ _ b) ∙ add_one (g c₁) },
-    λ s. pair _ _ s.reg₁ (pair _ _ s.reg₂ (pair _ _ (eq-eqb _ _ s.at) (eq-eqb _ _ (add_one (g c₁) ∙ sym s.gen)))),
+        record { low₁ = l₁; low₂ = l₂; reg₁ = r; reg₂ = s; at = eqb-true _ _ a; gen = sym (eqb-true _ _ b) ∙ add-one (g c₁) },
+    λ s. pair _ _ s.reg₁ (pair _ _ s.reg₂ (pair _ _ (eq-eqb _ _ s.at) (eq-eqb _ _ (add-one (g c₁) ∙ sym s.gen)))),
   )
 
   pub reuse_is : ReuseIs commands lengths g

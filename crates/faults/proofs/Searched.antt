@@ -4,7 +4,7 @@ use mathlib.Core.Bool.{Bool, true, false, cond}
 use mathlib.Core.List.{List, [], ◌∷◌, ◌++◌, append-nil}
 use Prim.Native.Nat.{ℕ, zero, suc, ◌+◌, ◌*◌, ◌≤◌}
 use native.Mathlib.Nat.{suc-mul, mul-le-mul}
-use native.Mathlib.Numerals.{add_one}
+use native.Mathlib.Numerals.{add-one}
 use native.Mathlib.Omega.{arith}
 use lib.ListN.{length, length-append}
 use Rattle.tables.specs.Limits.{most_rows}
@@ -23,7 +23,7 @@ module _ (found : ℕ → Bool) (to : ℕ → Pair) where
 
   pub along_found : (j : ℕ) → found j ≡ true → along_row found to (j + 1) ≡ along_row found to j ++ to j ∷ []
   unfolding along_row
-  along_found j f = rw (add_one, f)
+  along_found j f = rw (add-one, f)
 
   pub along_passed : (j : ℕ) → found j ≡ false → along_row found to (suc j) ≡ along_row found to j
   unfolding along_row
@@ -47,7 +47,7 @@ module _ (found : ℕ → ℕ → Bool) (to : ℕ → ℕ → Pair) (m : ℕ) wh
 
   pub all_next : (i : ℕ) → all_rows found to m (i + 1) ≡ all_rows found to m i ++ along_row (found i) (to i) m
   unfolding all_rows
-  all_next i = rw add_one
+  all_next i = rw add-one
 
   pub all_length : (n : ℕ) → length (all_rows found to m n) ≤ n * m
   unfolding all_rows

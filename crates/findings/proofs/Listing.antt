@@ -5,7 +5,7 @@ use mathlib.Core.Bool.{Bool, true, false}
 use mathlib.Core.List.{List, [], ◌∷◌, ◌++◌}
 use Prim.Native.Nat.{ℕ, zero, suc, ◌+◌, ◌%◌, ◌≤◌, ◌<◌, min}
 use native.Mathlib.Decide.{ℕ_discrete, dec_lt}
-use native.Mathlib.Numerals.{add_one}
+use native.Mathlib.Numerals.{add-one}
 use native.Mathlib.Omega.{arith}
 use lib.ListN.{length, get_or, set, replicate, length-set, length-replicate, get_or-replicate}
 use lib.Seq.{get_or-set_same, get_or-set_other}
@@ -203,5 +203,5 @@ module _ (heads commands generations relation : List ℕ) (f : Fault) (i : ℕ) 
         higher = omega (arith, X.from);
         on = C.here;
         more = λ t. w ∙ along_found found (pair_of f i) j t ∙ ap (λ (m : ℕ). along_row found (pair_of f i) m ++ pair_of f i j ∷ []) (sym e);
-        same = λ t. w ∙ ap (along_row found (pair_of f i)) (add_one j) ∙ along_passed found (pair_of f i) j t ∙ ap (along_row found (pair_of f i)) (sym e);
+        same = λ t. w ∙ ap (along_row found (pair_of f i)) (add-one j) ∙ along_passed found (pair_of f i) j t ∙ ap (along_row found (pair_of f i)) (sym e);
       }

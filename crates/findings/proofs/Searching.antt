@@ -4,7 +4,7 @@ use mathlib.Core.Bool.{Bool}
 use mathlib.Core.List.{List, [], ◌∷◌, ◌++◌, append-nil}
 use Prim.Native.Nat.{ℕ, ◌+◌, ◌*◌, ◌≤◌, ◌<◌}
 use native.Mathlib.Nat.{suc-mul, mul-le-mul}
-use native.Mathlib.Numerals.{add_one}
+use native.Mathlib.Numerals.{add-one}
 use native.Mathlib.Omega.{arith}
 use lib.ListN.{length, length-append}
 use Rattle.tables.specs.Limits.{most_rows}
@@ -53,7 +53,7 @@ module _ (found : ℕ → ℕ → Bool) (to : ℕ → ℕ → Pair) (m : ℕ) wh
         let b = row_length (found i) (to i) m in
         let l : i + 1 ≤ most_rows = omega arith in
         let c : (i + 1) * m ≤ most_rows * most_rows = mul-le-mul l few in
-        omega (arith, total_is, suc-mul i m, add_one i)
+        omega (arith, total_is, suc-mul i m, add-one i)
 
     -- a row with no fault
     pub row_empty : n ≡ 0 → s ≡ sheet_of (all_rows found to m (i + 1))

@@ -5,7 +5,7 @@ use mathlib.Core.Bool.{Bool, true, false, not}
 use mathlib.Core.List.{List}
 use Prim.Native.Nat.{ℕ, ◌+◌, ◌*◌, ◌≤◌, ◌<◌}
 use native.Mathlib.Decide.{ℕ_discrete}
-use native.Mathlib.Numerals.{add_one}
+use native.Mathlib.Numerals.{add-one}
 use native.Mathlib.Omega.{arith}
 use lib.Dec.{ltb}
 use lib.ListN.{length, get_or, set, take, length-set}
@@ -165,7 +165,7 @@ module _ (commands lengths generations heads leaders : List ℕ) (H : Headed len
   one_edge : (c i k : ℕ) → Draws commands generations heads leaders c i k → Edges i k
   one_edge c i k (next f) =
       let l = follows_low heads m c f in
-      along l (add_one c) (sym (begins (c + 1) l) ∙ not-true _ (both (ltb (c + 1) m) _ f).1)
+      along l (add-one c) (sym (begins (c + 1) l) ∙ not-true _ (both (ltb (c + 1) m) _ f).1)
   one_edge c i k (to f) = meets_edge _ _ f
   one_edge c i k (from f) = meets_edge _ _ f
 
@@ -178,7 +178,7 @@ module _ (commands lengths generations heads leaders : List ℕ) (H : Headed len
   -- complete
   pub edge_drawn : (i k : ℕ) → Edges i k → Reach Drawn i k
   edge_drawn i k (along lk e f) =
-      let q : k ≡ i + 1 = e ∙ sym (add_one i) in
+      let q : k ≡ i + 1 = e ∙ sym (add-one i) in
       rw q (drawn i i (i + 1) (omega arith) (next (pair _ _ (lt-ltb _ _ (rw q at lk)) (ap not (rw q at (begins k lk ∙ f))))))
   edge_drawn i k (meets li lk ri sk a e) =
       let M : Meeting commands generations i k = record { from = li; to = lk; register = ri; sync = sk; barrier = a; generation = e } in

@@ -5,7 +5,7 @@ use mathlib.Core.Bool.{cond}
 use mathlib.Core.List.{List, [], ◌∷◌}
 use Prim.Native.Nat.{ℕ, zero, suc, ◌+◌, ◌-◌, ◌/◌, ◌%◌, ◌^◌, ◌≤◌, ◌<◌}
 use native.Mathlib.Decide.{dec_lt}
-use native.Mathlib.Numerals.{add_one}
+use native.Mathlib.Numerals.{add-one}
 use native.Mathlib.Omega.{arith}
 use borrow.Author.Tests.{eq-eqb, ne_eqb, lt-ltb, le-ltb}
 use lib.Dec.{eqb}
@@ -38,7 +38,7 @@ held_below a (suc n) k e h = ap₂ ◌∷◌ (ap entry_of (get_or-set_other a k 
 
 pub held_push : (a : List ℕ) (n e : ℕ) → n < length a → stack_in (set a n e) (n + 1) ≡ entry_of e ∷ stack_in a n
 unfolding stack_in
-held_push a n e h = rw (add_one n) (ap₂ ◌∷◌ (ap entry_of (get_or-set_same a n e 0 h)) (held_below a n n e (omega arith)))
+held_push a n e h = rw (add-one n) (ap₂ ◌∷◌ (ap entry_of (get_or-set_same a n e 0 h)) (held_below a n n e (omega arith)))
 
 pub held_top : (a : List ℕ) (n : ℕ) → 0 < n → stack_in a n ≡ entry_of (get_or a (n - 1) 0) ∷ stack_in a (n - 1)
 unfolding stack_in

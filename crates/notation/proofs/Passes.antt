@@ -5,7 +5,7 @@ use mathlib.Core.Bool.{true, false, cond}
 use mathlib.Core.List.{List, [], ◌∷◌}
 use mathlib.Core.Option.{none, some}
 use Prim.Native.Nat.{ℕ, suc, ◌+◌, ◌*◌, ◌≤◌, ◌<◌}
-use native.Mathlib.Numerals.{add_one}
+use native.Mathlib.Numerals.{add-one}
 use native.Mathlib.Omega.{arith}
 use lib.ListN.{length, set}
 use Rattle.tables.specs.Limits.{most_rows, most_threads}
@@ -174,7 +174,7 @@ module _ {text was was' now now' : List ℕ} {at : ℕ} {s : State} {i j n : ℕ
 
       pub writing_row : Writing text was was' (set (set (set now i k) (i + 1) a) (i + 2) c) now' nxt Close (i + 3) j (n + 1)
       writing_row =
-          rw (add_one n)
+          rw (add-one n)
           (record {
             inside = writing_further.1;
             rows = filling_three k a c row_left;

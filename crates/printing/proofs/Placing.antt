@@ -5,7 +5,7 @@ use mathlib.Core.List.{List, [], ◌∷◌, ◌++◌}
 use Prim.Native.Nat.{ℕ, suc, ◌+◌, ◌≤◌, ◌<◌}
 use native.Mathlib.Decide.{dec_lt}
 use native.Mathlib.Nat.{add-zero}
-use native.Mathlib.Numerals.{add_one}
+use native.Mathlib.Numerals.{add-one}
 use native.Mathlib.Omega.{arith}
 use lib.ListN.{length, set, take, get_or, length-append, length-set}
 use lib.Seq.{take-suc, take_all, set_out, sets, sets-eq, length-sets}
@@ -73,7 +73,7 @@ puts_over {before} {w = w} p h = p.room ∙ sets_over w before h
 
 module _ {before mid : List ℕ} {at n : ℕ} (w : List ℕ) (i : ℕ) (p : PutsBytes before mid at (take i w) n) where
   pub front_next : {after : List ℕ} {k : ℕ} → i < length w → PutsBytes mid after n (get_or w i 0 ∷ []) k → PutsBytes before after at (take (i + 1) w) k
-  front_next h q = rw (add_one i, take-suc w i 0 h) (puts_on p q)
+  front_next h q = rw (add-one i, take-suc w i 0 h) (puts_on p q)
 
   pub front_all : length w ≤ i → PutsBytes before mid at w n
   front_all h = rw (take_all i w h) at p

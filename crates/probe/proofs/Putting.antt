@@ -2,7 +2,7 @@
 use mathlib.Core.Path.{◌≡◌, refl, sym, ap, ◌∙◌}
 use mathlib.Core.List.{List, [], ◌∷◌, ◌++◌}
 use Prim.Native.Nat.{ℕ, suc, ◌+◌, ◌*◌, ◌≤◌, ◌<◌}
-use native.Mathlib.Numerals.{add_one}
+use native.Mathlib.Numerals.{add-one}
 use native.Mathlib.Omega.{arith}
 use lib.ListN.{length, get_or, set, take, drop, length-append, take-append-drop, drop_of_length-le}
 use lib.Seq.{drop-cons, drop-drop, length-take-le}
@@ -68,7 +68,7 @@ module _ (ps : List Pair) (was : List ℕ) where
     unfolding pair_numbers
     putting_more x y e f h =
         let d : pair_numbers (drop i ps) ≡ x ∷ y ∷ pair_numbers (drop (suc i) ps) = ap pair_numbers (drop-cons ps i (pair 0 0) h) ∙ rw (e, f) in
-        let l : pair_numbers (drop (suc i) ps) ≡ pair_numbers (drop (i + 1) ps) = rw (add_one i) in
+        let l : pair_numbers (drop (suc i) ps) ≡ pair_numbers (drop (i + 1) ps) = rw (add-one i) in
         let s : 4 + i * 2 + 1 ≡ 5 + i * 2 = omega arith in
         let n : 5 + i * 2 + 1 ≡ 4 + (i + 1) * 2 = omega arith in
         filling_left _ l (rw n at (filling_more y (rw s at (filling_more x (filling_left _ d P)))))

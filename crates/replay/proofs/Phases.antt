@@ -4,7 +4,7 @@ use mathlib.Core.Logic.{by_cases, ◌⊎◌, inl, inr, ◌≢◌}
 use mathlib.Core.Bool.{true, false, not}
 use Prim.Native.Nat.{ℕ, suc, ◌+◌, ◌≤◌, ◌<◌}
 use native.Mathlib.Decide.{ℕ_discrete}
-use native.Mathlib.Numerals.{add_one}
+use native.Mathlib.Numerals.{add-one}
 use native.Mathlib.Omega.{arith}
 use lib.Dec.{eqb}
 use Rattle.relation.proofs.Truth.{clashing}
@@ -107,7 +107,7 @@ module _ {P : Program} (W : Lawful P) {s : State} (G : Good P s) {c : ℕ} (A : 
     -- with c, registrations reach the count in both
     pub completes_is : eqb (so_far v.phase + 1) (count c) ≡ completes P s c
     unfolding completes
-    completes_is = ap (λ (n : ℕ). eqb n (count c)) (add_one _ ∙ ap suc (so_far_lem B.phase))
+    completes_is = ap (λ (n : ℕ). eqb n (count c)) (add-one _ ∙ ap suc (so_far_lem B.phase))
 
     pub barrier_full : completes P s c ≡ true → BarrierIs P s' b (unset (v.done + 1))
     barrier_full f = record { done = omega (arith, d); phase = is_unset (none_registered none) }
@@ -128,7 +128,7 @@ module _ {P : Program} (W : Lawful P) {s : State} (G : Good P s) {c : ℕ} (A : 
           done = B.done ∙ sym d;
           phase =
               is_expecting
-              (ap (λ (n : ℕ). registered P s' b (suc n)) d ∙ registered_more W G A m (joins W G A m reg) ∙ sym (add_one _ ∙ ap suc (so_far_lem B.phase)))
+              (ap (λ (n : ℕ). registered P s' b (suc n)) d ∙ registered_more W G A m (joins W G A m reg) ∙ sym (add-one _ ∙ ap suc (so_far_lem B.phase)))
               (omega arith) (λ x h. like W G A m (joins W G A m reg) (rw d at h));
         }
       where

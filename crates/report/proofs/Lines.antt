@@ -2,7 +2,7 @@
 use mathlib.Core.Path.{◌≡◌, refl, sym, ap, ◌∙◌}
 use mathlib.Core.List.{List, [], ◌∷◌, ◌++◌, append_assoc, append-nil}
 use Prim.Native.Nat.{ℕ, ◌+◌, ◌<◌}
-use native.Mathlib.Numerals.{add_one}
+use native.Mathlib.Numerals.{add-one}
 use native.Mathlib.Omega.{arith}
 use lib.ListN.{length, get_or, take, length-append}
 use lib.Seq.{take-suc}
@@ -60,5 +60,5 @@ pairs_one p = append-nil (two_numbers p.first p.second)
 pub pairs_next : (ps : List Pair) (i : ℕ) (d : Pair) → i < length ps
     → pair_lines (take (i + 1) ps) ≡ pair_lines (take i ps) ++ two_numbers (get_or ps i d).first (get_or ps i d).second
 pairs_next ps i d h =
-    rw (add_one i, take-suc ps i d h, pairs_append (take i ps) (get_or ps i d ∷ []))
+    rw (add-one i, take-suc ps i d h, pairs_append (take i ps) (get_or ps i d ∷ []))
     (ap (λ (w : List ℕ). pair_lines (take i ps) ++ w) (pairs_one (get_or ps i d)))

@@ -2,7 +2,7 @@
 use mathlib.Core.Path.{◌≡◌, refl, sym, ap, ◌∙◌}
 use mathlib.Core.List.{List, [], ◌∷◌, ◌++◌}
 use Prim.Native.Nat.{ℕ, zero, suc, ◌+◌, ◌-◌, ◌≤◌, ◌<◌}
-use native.Mathlib.Numerals.{add_one}
+use native.Mathlib.Numerals.{add-one}
 use native.Mathlib.Omega.{arith}
 use lib.ListN.{length, get_or, set, take, drop}
 use lib.Seq.{length-take-le, get_or-take, get_or-drop, get_or-append-add}
@@ -19,7 +19,7 @@ put_suc (x ∷ g) (y ∷ r) zero l h = refl
 put_suc (x ∷ g) (y ∷ r) (suc n) l h = ap (λ (t : List ℕ). x ∷ t) (put_suc g r n (omega arith) (omega arith))
 
 pub put_more : (g r : List ℕ) (n : ℕ) → n < length g → n < length r → set (put g n r) n (get_or g n 0) ≡ put g (n + 1) r
-put_more g r n l h = rw add_one (put_suc g r n l h)
+put_more g r n l h = rw add-one (put_suc g r n l h)
 
 -- the numbers that were put stand in front, and the room beyond is kept
 front : (l r : List ℕ) (c : ℕ) → c < length l → get_or (l ++ r) c 0 ≡ get_or l c 0

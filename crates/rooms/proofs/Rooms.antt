@@ -3,7 +3,7 @@ use mathlib.Core.Path.{◌≡◌, refl, sym, ap, ◌∙◌, subst}
 use mathlib.Core.Bool.{Bool, true, false, cond}
 use mathlib.Core.List.{List, [], ◌∷◌, ◌++◌}
 use Prim.Native.Nat.{ℕ, ◌+◌, ◌≤◌, ◌<◌}
-use native.Mathlib.Numerals.{add_one}
+use native.Mathlib.Numerals.{add-one}
 use native.Mathlib.Omega.{arith}
 use lib.Dec.{ltb}
 use lib.ListN.{length, get_or, drop}
@@ -84,7 +84,7 @@ module _ {rooms : List (List ℕ)} {i : ℕ} (G : Gone rooms i) where
   module _ (there : i < length rooms) where
     -- room i, and then the rest
     next_told : first_short (get_or rooms i [] ∷ drop (i + 1) rooms) ≡ first_short rooms
-    next_told = ap first_short (rw add_one (sym (drop-cons rooms i [] there))) ∙ G.rest
+    next_told = ap first_short (rw add-one (sym (drop-cons rooms i [] there))) ∙ G.rest
 
     pub gone_short : given_of (get_or rooms i []) < needed_of (get_or rooms i []) → tell 4 (digit_of (get_or rooms i [])) 0 ≡ first_short rooms
     gone_short l = sym (rw (lt-ltb _ _ l)) ∙ sym (more_short (get_or rooms i []) (drop (i + 1) rooms)) ∙ next_told

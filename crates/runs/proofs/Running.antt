@@ -5,7 +5,7 @@ use mathlib.Core.Bool.{Bool, true, false, cond}
 use mathlib.Core.List.{List, [], ◌∷◌}
 use Prim.Native.Nat.{ℕ, zero, suc, ◌+◌, ◌-◌, ◌≤◌, ◌<◌}
 use native.Mathlib.Decide.{ℕ_discrete}
-use native.Mathlib.Numerals.{add_one}
+use native.Mathlib.Numerals.{add-one}
 use native.Mathlib.Omega.{arith}
 use borrow.Author.Tests.{eq-eqb, ne_eqb, lt-ltb, le-ltb}
 use lib.Dec.{eqb}
@@ -119,7 +119,7 @@ module _ (s e : List ℕ) (X : KernelTold) (K steps : ℕ) (a : List ℕ) (st : 
           soon = omega (arith, G.soon);
           is =
               one h q ∙ rw (le-ltb most_entries (length (stack_in a st.height)) (omega arith), le-ltb most_entries (length (next_warp s e (warp_of a st μ)).stack) (omega arith))
-              (ap₂ (λ (i : ℕ) (w : Warp). tell_run (run_warp s e (steps - i) i w)) (sym (add_one j)) (sym here));
+              (ap₂ (λ (i : ℕ) (w : Warp). tell_run (run_warp s e (steps - i) i w)) (sym (add-one j)) (sym here));
         }
 
 pub going_start : (s e : List ℕ) (lanes steps : ℕ) (μ : Mem) (a₀ a : List ℕ) (st : Stand) → statements s ≤ most_statements → length a₀ ≡ stack_room → length a ≡ stack_room → StartsWarp s lanes a₀ a st

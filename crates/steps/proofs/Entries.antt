@@ -4,7 +4,7 @@ use mathlib.Core.Bool.{true, false}
 use mathlib.Core.List.{List, [], ◌∷◌}
 use mathlib.Core.Logic.{◌≢◌}
 use Prim.Native.Nat.{ℕ, zero, suc, ◌+◌, ◌≤◌, ◌<◌}
-use native.Mathlib.Numerals.{add_one}
+use native.Mathlib.Numerals.{add-one}
 use native.Mathlib.Omega.{arith}
 use lib.ListN.{length, get_or, set, drop}
 use lib.Seq.{drop-cons, drop-nil}
@@ -86,7 +86,7 @@ module _ (commands lengths σ : List ℕ) where
       next {d} {a} e f =
           A.is ∙ ap (λ (l : List ℕ). go_on commands lengths l (standing s g n verdict.Clean)) (drop-cons σ i 0 l)
           ∙ ap (go_on commands lengths (drop (suc i) σ)) (one_on commands lengths (standing s g n verdict.Clean) (get_or σ i 0) refl e f)
-          ∙ ap (λ (k : ℕ). go_on commands lengths (drop k σ) (went_on d a (standing s g n verdict.Clean))) (sym (add_one i))
+          ∙ ap (λ (k : ℕ). go_on commands lengths (drop k σ) (went_on d a (standing s g n verdict.Clean))) (sym (add-one i))
 
       module _ {row : Row} {made : Change} (F : Found commands lengths s (get_or σ i 0) row made) where
         did_so : {d : Did} → made.did ≡ d → (stepped commands lengths s (get_or σ i 0)).did ≡ d

@@ -5,7 +5,7 @@ use mathlib.Core.List.{List}
 use mathlib.Core.Logic.{by_cases, ⊎_elim, ◌≢◌}
 use Prim.Native.Nat.{ℕ, zero, suc, ◌+◌, ◌*◌, ◌≤◌, ◌<◌}
 use native.Mathlib.Decide.{dec_lt, ℕ_discrete}
-use native.Mathlib.Numerals.{add_one}
+use native.Mathlib.Numerals.{add-one}
 use native.Mathlib.Omega.{arith}
 use lib.ListN.{length, get_or, set, replicate, length-replicate, get_or-replicate, get_or-eq_default, get_or-map}
 use lib.Seq.{get_or-set_same, get_or-set_other}
@@ -110,7 +110,7 @@ module _ (lengths : List ℕ) where
   -- no row is large, of lengths that are not
   pub first_small : ((i : ℕ) → get_or lengths i 0 ≤ 4294967295) → (t : ℕ) → first_row lengths t ≤ t * 4294967295
   first_small h zero = omega (arith, first_none lengths)
-  first_small h (suc t) = omega (arith, first_small h t, h t, ap (first_row lengths) (add_one t), first_next lengths t)
+  first_small h (suc t) = omega (arith, first_small h t, h t, ap (first_row lengths) (add-one t), first_next lengths t)
 
   pub begins_more : {firsts : List ℕ} {sum t : ℕ} → Begins lengths firsts sum t → t < length firsts → t < most_threads → (x : ℕ) → x ≡ get_or lengths t 0 → x ≤ 4294967295
       → Begins lengths (set firsts t sum) (sum + x) (t + 1)

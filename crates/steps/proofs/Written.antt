@@ -3,7 +3,7 @@ use mathlib.Core.Path.{◌≡◌, refl, sym, ap, ◌∙◌}
 use mathlib.Core.Bool.{Bool, true, false}
 use mathlib.Core.List.{List, [], ◌∷◌, ◌++◌, append-nil, append_assoc}
 use Prim.Native.Nat.{ℕ, suc, ◌+◌, ◌-◌, ◌≤◌, ◌<◌}
-use native.Mathlib.Numerals.{add_one}
+use native.Mathlib.Numerals.{add-one}
 use native.Mathlib.Omega.{arith}
 use lib.Dec.{ltb}
 use lib.ListN.{length, set, drop, length-append, length-set, length-map}
@@ -87,7 +87,7 @@ module _ (early : List Bool) (commands lengths before : List ℕ) (from : Replay
       stored_so : set room i t ≡ (W.front ++ t ∷ []) ++ drop (i + 1) before
       stored_so =
           ap (λ (r : List ℕ). set r i t) (W.room_is ∙ ap (λ (r : List ℕ). W.front ++ r) (drop-cons before i 0 l))
-          ∙ set_at W.front _ (drop (suc i) before) t i W.long ∙ rw add_one (sym (append_assoc W.front (t ∷ []) (drop (suc i) before)))
+          ∙ set_at W.front _ (drop (suc i) before) t i W.long ∙ rw add-one (sym (append_assoc W.front (t ∷ []) (drop (suc i) before)))
 
       module _ (thread : t < most_threads) {row : Row} {made : Change} (F : Found commands lengths s t row made) where
         turn_is : t ≡ choose s

@@ -2,7 +2,7 @@
 use mathlib.Core.Path.{◌≡◌, refl, ap, sym, ◌∙◌}
 use mathlib.Core.List.{List, [], ◌∷◌, ◌++◌, append-nil, append_assoc}
 use Prim.Native.Nat.{ℕ, suc, ◌+◌, ◌≤◌, ◌<◌}
-use native.Mathlib.Numerals.{add_one}
+use native.Mathlib.Numerals.{add-one}
 use native.Mathlib.Omega.{arith}
 use lib.ListN.{length, get_or, set, drop, length-append, length-drop}
 use lib.Seq.{drop-cons, set_at}
@@ -46,7 +46,7 @@ filling_more {all} {left} {was} {now} {i} x f =
       long = omega (arith, f.long, length-append f.front (x ∷ []));
       all_is = f.all_is ∙ sym (append_assoc f.front (x ∷ []) left);
       now_is =
-          rw (f.now_is, drop-cons was i 0 h, set_at f.front (get_or was i 0) (drop (suc i) was) x i f.long, add_one i)
+          rw (f.now_is, drop-cons was i 0 h, set_at f.front (get_or was i 0) (drop (suc i) was) x i f.long, add-one i)
           (sym (append_assoc f.front (x ∷ []) (drop (suc i) was)));
       fits = f.fits;
     }

@@ -5,7 +5,7 @@ use mathlib.Core.List.{List}
 use mathlib.Core.Logic.{by_cases, ⊎_elim, ◌≢◌}
 use Prim.Native.Nat.{ℕ, zero, suc, ◌+◌, ◌≤◌, ◌<◌}
 use native.Mathlib.Decide.{dec_lt, ℕ_discrete}
-use native.Mathlib.Numerals.{add_one}
+use native.Mathlib.Numerals.{add-one}
 use native.Mathlib.Omega.{arith}
 use lib.Dec.{eqb, ltb}
 use lib.ListN.{length, get_or, set}
@@ -38,7 +38,7 @@ module _ (waits : List ℕ) where
 
   pub held_more : (t : ℕ) {s r : Set} {b : Bool} → s ≡ held_below waits t → b ≡ held waits t → r ≡ put s t b → r ≡ held_below waits (t + 1)
   unfolding held_below
-  held_more t e f g = rw add_one (g ∙ ap₂ (λ (s : Set) (b : Bool). put s t b) e f)
+  held_more t e f g = rw add-one (g ∙ ap₂ (λ (s : Set) (b : Bool). put s t b) e f)
 
   pub held_all : {t n : ℕ} {s : Set} → s ≡ held_below waits t → t ≤ n → n ≤ t → s ≡ held_below waits n
   held_all {t} {n} e l m = let q : t ≡ n = omega arith in e ∙ ap (held_below waits) q
@@ -107,8 +107,8 @@ module _ (lengths : List ℕ) (early : List Bool) where
       → (t : ℕ) → has (put s k b) t ≡ ltb t (k + 1) && p t
   more_said s p k {b} z l h e t =
       has_put s z k t b l
-      ∙ by_cases (ℕ_discrete t k) (λ (q : t ≡ k). rw (eq-eqb t k q, add_one, lt-ltb t (suc k) (omega arith)) (e ∙ ap p (sym q)))
-      (λ (d : t ≢ k). rw (ne_eqb t k d, add_one, h t, below_other t k d))
+      ∙ by_cases (ℕ_discrete t k) (λ (q : t ≡ k). rw (eq-eqb t k q, add-one, lt-ltb t (suc k) (omega arith)) (e ∙ ap p (sym q)))
+      (λ (d : t ≢ k). rw (ne_eqb t k d, add-one, h t, below_other t k d))
 
   pub looked_more : (next : List ℕ) (r : Ready) (k n x : ℕ) → LookedBelow next r k → k < most_threads → n ≡ get_or next k 0 → x ≡ first_row lengths k + n
       → LookedBelow next (looked lengths early r k n x) (k + 1)

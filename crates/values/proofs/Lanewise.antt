@@ -1,5 +1,5 @@
 -- The lanes for which an expression is not 0, one after the other.
-use Rattle.std.proofs.Common.{◌≡◌, ℕ, zero, suc, ◌+◌, ◌-◌, ◌*◌, ◌/◌, ◌%◌, ◌^◌, ◌<◌, ◌≤◌, Bool, true, false, cond, not, ◌&&◌, ◌||◌, eqb, ltb, ◌≢◌, List, sym, refl, ap, ◌∙◌, subst, ap₂, ⊎_elim, mod-eq_of_lt, add_one, arith, le-ltb, lt-ltb, eq-eqb, ne_eqb}
+use Rattle.std.proofs.Common.{◌≡◌, ℕ, zero, suc, ◌+◌, ◌-◌, ◌*◌, ◌/◌, ◌%◌, ◌^◌, ◌<◌, ◌≤◌, Bool, true, false, cond, not, ◌&&◌, ◌||◌, eqb, ltb, ◌≢◌, List, sym, refl, ap, ◌∙◌, subst, ap₂, ⊎_elim, mod-eq_of_lt, add-one, arith, le-ltb, lt-ltb, eq-eqb, ne_eqb}
 use mathlib.Core.Logic.{by_cases}
 use native.Mathlib.Decide.{ℕ_discrete, dec_lt}
 use lib.Bits.{bit_or, or_zero_l}
@@ -24,11 +24,11 @@ acting_none m e μ = refl
 module _ (m : ℕ) (e : Expr) (μ : Mem) (t w : ℕ) (E : w ≡ acting m e μ t) (r : Bool) (q : r ≡ bit_of m t && test e t μ) where
   pub acting_hit : t < 32 → r ≡ true → bit_or w ((1 * 2 ^ t) % 2 ^ 32) ≡ acting m e μ (t + 1)
   unfolding acting
-  acting_hit l p = ap₂ bit_or E (one_shl t 32 l) ∙ sym (rw (add_one t, ← q, p))
+  acting_hit l p = ap₂ bit_or E (one_shl t 32 l) ∙ sym (rw (add-one t, ← q, p))
 
   pub acting_miss : r ≡ false → w ≡ acting m e μ (t + 1)
   unfolding acting
-  acting_miss p = E ∙ sym (rw (add_one t, ← q, p))
+  acting_miss p = E ∙ sym (rw (add-one t, ← q, p))
 
 -- past the limit every expression is 0
 pub acting_limit : (x : List ℕ) (i m : ℕ) (μ : Mem) (n : ℕ) → most_expressions ≤ i → 0 ≡ acting m (expression x i) μ n

@@ -1,5 +1,5 @@
 -- The rows for several lanes at once: a row from its operands, and all rows one after the other.
-use Rattle.std.proofs.Common.{◌≡◌, ℕ, suc, ◌+◌, ◌*◌, ◌<◌, ◌≤◌, true, false, cond, ltb, ◌≢◌, List, length, get_or, set, replicate, sym, refl, ap, ◌∙◌, subst, ap₂, ⊎_elim, mul-le-mul_right, suc-mul, mul-le-mul, add_one, arith, length-set, get_or-set_other, get_or-set_same, ltb-true}
+use Rattle.std.proofs.Common.{◌≡◌, ℕ, suc, ◌+◌, ◌*◌, ◌<◌, ◌≤◌, true, false, cond, ltb, ◌≢◌, List, length, get_or, set, replicate, sym, refl, ap, ◌∙◌, subst, ap₂, ⊎_elim, mul-le-mul_right, suc-mul, mul-le-mul, add-one, arith, length-set, get_or-set_other, get_or-set_same, ltb-true}
 use mathlib.Core.Logic.{by_cases}
 use native.Mathlib.Decide.{ℕ_discrete, dec_lt}
 use lib.ListN.{get_or-replicate, get_or-eq_default, length-replicate}
@@ -50,7 +50,7 @@ pub strip_before : (n j i : ℕ) → j < i → j * n + n ≤ i * n
 strip_before n j i h = row_in (i * n) n i j (omega arith) h
 
 next_strip : (n i : ℕ) → (i + 1) * n ≡ i * n + n
-next_strip n i = ap (λ (j : ℕ). j * n) (add_one i) ∙ suc-mul i n
+next_strip n i = ap (λ (j : ℕ). j * n) (add-one i) ∙ suc-mul i n
 
 room_for : {v : List ℕ} {i n : ℕ} → CanFill v i n → i * n + n ≤ length v
 room_for {v} {i} {n} C = subst (λ (m : ℕ). m ≤ length v) (next_strip n i) C.room

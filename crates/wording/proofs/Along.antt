@@ -2,7 +2,7 @@
 use mathlib.Core.Path.{◌≡◌, refl, sym, ap, ◌∙◌}
 use mathlib.Core.List.{List, [], ◌∷◌, ◌++◌, append-nil, append_assoc}
 use Prim.Native.Nat.{ℕ, zero, suc, ◌+◌, ◌-◌, ◌≤◌, ◌<◌}
-use native.Mathlib.Numerals.{add_one}
+use native.Mathlib.Numerals.{add-one}
 use native.Mathlib.Omega.{arith}
 use lib.ListN.{length, get_or, drop, length-drop}
 use lib.Seq.{drop-cons}
@@ -61,7 +61,7 @@ module _ (σ : List ℕ) (i : ℕ) where
   pub steps_next : i < length σ → steps_line (drop i σ) ≡ (figures (get_or σ i 0) ++ parting_byte (length σ - (i + 1)) ∷ []) ++ steps_line (drop (i + 1) σ)
   unfolding steps_line
   steps_next l =
-      rw add_one
+      rw add-one
       (ap steps_line (drop-cons σ i 0 l)
       ∙ ap (λ (n : ℕ). figures (get_or σ i 0) ++ parting_byte n ∷ steps_line (drop (suc i) σ)) (length-drop (suc i) σ)
       ∙ sym (append_assoc (figures (get_or σ i 0)) (parting_byte (length σ - suc i) ∷ []) (steps_line (drop (suc i) σ))))
