@@ -5,21 +5,21 @@ ghost use Rattle.barriers.specs.Promise.{AnswersRegister, AnswersIsSet};
 
 use crate::counting::more;
 
-#[derive(Drop)]
+#[derive(Clone, Copy)]
 pub enum Phase {
     Unset,
     Expecting(u32, u32),
 }
 
 // With it travels how many of its generations have completed.
-#[derive(Drop)]
+#[derive(Clone, Copy)]
 pub struct Barrier {
     pub phase: Phase,
     pub done: u32,
 }
 
 // What a registration meets.
-#[derive(Drop)]
+#[derive(Clone, Copy)]
 pub enum Met {
     Clash,
     Stays,
@@ -27,7 +27,7 @@ pub enum Met {
 }
 
 // That, and the barrier after it: beside each other, since an enum cannot hold what a barrier may come to hold.
-#[derive(Drop)]
+#[derive(Clone, Copy)]
 pub struct Registration {
     pub met: Met,
     pub after: Barrier,

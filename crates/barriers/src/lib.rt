@@ -1,4 +1,6 @@
 // A barrier: either unset, or expecting a count with what has registered so far; and counters, which stay at their largest.
+#![tactic(auto)]
+
 mod barrier; // a barrier, and what registering does to it
 mod counting; // counters that stay at their largest
 

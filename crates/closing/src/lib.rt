@@ -1,4 +1,6 @@
 // The closing of a table under chains, by Warshall's rounds over the doors of `relation`. Nothing here knows of barriers.
+#![tactic(auto)]
+
 ghost use Rattle.closing.specs.Promise.{Closes};
 
 use crate::padding::trim;

@@ -2,7 +2,7 @@
 use spelling::same;
 
 // The report alone; the report with evidence; or something that is not known here.
-#[derive(Drop)]
+#[derive(Clone, Copy)]
 pub(crate) enum Wanted {
     Report,
     Evidence,

@@ -3,7 +3,7 @@ ghost use Rattle.cuckoomoss.specs.Needs.{CameWithin};
 
 use notation::Text;
 
-#[derive(Drop)]
+#[derive(Clone, Copy)]
 pub(crate) struct Input;
 
 impl Input {
@@ -12,7 +12,7 @@ impl Input {
 }
 
 // How many bytes came; or a read failed, and errno says why.
-#[derive(Drop)]
+#[derive(Clone, Copy)]
 pub(crate) enum Came {
     Bytes(usize),
     Failed,

@@ -1,5 +1,7 @@
 // Reads one text from standard input and prints its report, with evidence where `--evidence` asks for it. An error of reading or writing is told on standard error, and is
 // never taken for an end.
+#![tactic(auto)]
+
 ghost use Rattle.cuckoomoss.specs.Printed.{AnswersBeforeZero, HoldsReport, HoldsExhibits};
 
 use asked::{Wanted, asked};
@@ -25,7 +27,7 @@ fn before_zero(room: &[u8]) -> usize
 }
 
 // The report of a text: the first `length` of these bytes.
-#[derive(Drop)]
+#[derive(Clone, Copy)]
 struct Output {
     bytes: [u8; Report::BYTES],
     length: usize,
@@ -42,7 +44,7 @@ fn report_of(text: &[u8]) -> Output
 }
 
 // The same with evidence.
-#[derive(Drop)]
+#[derive(Clone, Copy)]
 struct LongOutput {
     bytes: [u8; Report::EVIDENCE_BYTES],
     length: usize,

@@ -9,7 +9,7 @@ use sheet::Sheet;
 use tables::Table;
 
 // What is concluded from a text, and how many numbers its two tables have; none where it is refused.
-#[derive(Drop)]
+#[derive(Clone, Copy)]
 pub(crate) struct Concluded {
     pub(crate) conclusion: Conclusion,
     pub(crate) numbers: usize,
@@ -17,7 +17,7 @@ pub(crate) struct Concluded {
 }
 
 // The sizes of full rooms.
-#[derive(Drop)]
+#[derive(Clone, Copy)]
 pub(crate) struct Full;
 
 impl Full {

@@ -1,4 +1,6 @@
 // The text review: a text in, a report out, and the evidence for it. C calls both doors by their plain names; include/desk.h declares them.
+#![tactic(auto)]
+
 ghost use Rattle.desk.specs.Promise.{TextReviewed};
 ghost use Rattle.desk.specs.Evidence.{TextEvidenced};
 
@@ -10,7 +12,7 @@ use tables::Table;
 mod conclusion; // a text read, scheduled and judged
 
 // The sizes of report rooms.
-#[derive(Drop)]
+#[derive(Clone, Copy)]
 pub struct Report;
 
 impl Report {

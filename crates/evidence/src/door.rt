@@ -14,7 +14,7 @@ use sheet::{Sheet, kept};
 use verdicts::Verdict;
 
 // What a review found, and how many entries of evidence were written.
-#[derive(Drop)]
+#[derive(Clone, Copy)]
 pub struct Evidence {
     pub finding: Finding,
     pub entries: usize,

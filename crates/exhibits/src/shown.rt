@@ -11,7 +11,7 @@ use verdicts::Told;
 use wording::Shown;
 
 // How a schedule ended, and the generation of each command that ran.
-#[derive(Drop)]
+#[derive(Clone, Copy)]
 struct End {
     told: Told,
     generations: [u32; Table::ROWS],

@@ -8,14 +8,14 @@ use sheet::Pair;
 use tables::Table;
 
 // What is looked for.
-#[derive(Drop)]
+#[derive(Clone, Copy)]
 pub enum Fault {
     Reuse,
     Race,
 }
 
 // What the tests see of a command. The head is the row that its thread begins at.
-#[derive(Drop)]
+#[derive(Clone, Copy)]
 pub struct Seen {
     pub row: u32,
     pub kind: u32,

@@ -15,7 +15,7 @@ use sheet::Sheet;
 use tables::{Table, put_heads};
 use verdicts::Verdict;
 
-#[derive(Drop)]
+#[derive(Clone, Copy)]
 pub struct Finding {
     pub verdict: Verdict,
     pub sheet: Sheet,

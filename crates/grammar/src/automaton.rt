@@ -3,7 +3,7 @@ ghost use Rattle.grammar.specs.Promise.{AnswersTakeToken, AnswersMayEnd};
 
 use crate::tokens::Token;
 
-#[derive(Drop)]
+#[derive(Clone, Copy)]
 pub enum State {
     // the word of a command, or `return`
     Word,
@@ -20,7 +20,7 @@ pub enum State {
 }
 
 // What a token does: it doesn't fit; it leads on; it completes a row, or a thread.
-#[derive(Drop)]
+#[derive(Clone, Copy)]
 pub enum TokenMove {
     Refuse,
     On(State),

@@ -1,4 +1,6 @@
 // The tokens of the written notation, which of them write which listing, and what a token does.
+#![tactic(auto)]
+
 mod automaton; // what is expected next, and what a token does
 mod tokens; // the tokens of a text
 

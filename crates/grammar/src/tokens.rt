@@ -6,7 +6,7 @@ ghost use Rattle.grammar.specs.Promise.{AnswersTokenAt};
 use spelling::{Byte, Numeral, class_of, read_number, run_of, same};
 use tables::Table;
 
-#[derive(Drop)]
+#[derive(Clone, Copy)]
 pub enum Token {
     // `read` and `write`, by the kind of their row
     Access(u32),
@@ -21,14 +21,14 @@ pub enum Token {
 }
 
 // A token, and how many bytes it takes.
-#[derive(Drop)]
+#[derive(Clone, Copy)]
 pub(crate) struct Piece {
     pub(crate) token: Token,
     pub(crate) size: usize,
 }
 
 // What stands at a place after its blanks: the end, or a token with its first byte's place and the place past it.
-#[derive(Drop)]
+#[derive(Clone, Copy)]
 pub enum Met {
     End(usize),
     Token(Token, usize, usize),

@@ -1,5 +1,5 @@
 // The kernel type and the answer. The limits and the kinds of rows are named here once; the definitions hold those that a test uses to the numbers of the rules (R66 to R68).
-#[derive(Drop)]
+#[derive(Clone, Copy)]
 pub struct Kernel;
 
 impl Kernel {
@@ -42,7 +42,7 @@ impl Kernel {
 }
 
 // The number of a refusal, with its place; number 0 at place 0: not refused.
-#[derive(Drop)]
+#[derive(Clone, Copy)]
 pub struct Ruling {
     pub number: u32,
     pub place: usize,

@@ -1,4 +1,6 @@
 // The two tables of a warp's kernel, their limits, and refusals 17 and 18.
+#![tactic(auto)]
+
 mod expressions; // 17, of an expression
 mod kernel; // limits, kinds, and the answer
 mod refusals; // both refusals, in the order tested

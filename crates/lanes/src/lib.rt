@@ -1,8 +1,10 @@
 // The lanes of a warp as words of 32 bits: bit t of each belongs to lane t.
+#![tactic(auto)]
+
 ghost use Rattle.lanes.specs.Promise.{AnswersWake, AnswersBreakOff, AnswersGiveUp, AnswersLeaveOut, AnswersOnly, AnswersHighest, AnswersAllOf};
 
 // The types of tokens, by number.
-#[derive(Drop)]
+#[derive(Clone, Copy)]
 pub struct TokenKind;
 
 impl TokenKind {
@@ -16,7 +18,7 @@ impl TokenKind {
 }
 
 // The active mask and the disable states: the lanes that broke off a loop, and those that returned.
-#[derive(Drop)]
+#[derive(Clone, Copy)]
 pub struct Lanes {
     pub active: u32,
     pub broke: u32,

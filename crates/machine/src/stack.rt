@@ -8,7 +8,7 @@ ghost use Rattle.machine.specs.Needs.{number_of_token};
 use lanes::Lanes;
 use values::at;
 
-#[derive(Drop)]
+#[derive(Clone, Copy)]
 pub struct Stack;
 
 impl Stack {
@@ -23,7 +23,7 @@ impl Stack {
 }
 
 // How high the stack stands in its room, and the lanes.
-#[derive(Drop)]
+#[derive(Clone, Copy)]
 pub struct Stand {
     pub height: usize,
     pub lanes: Lanes,

@@ -1,4 +1,6 @@
 // The written notation: a text read into the two tables of a program.
+#![tactic(auto)]
+
 mod reading; // refusals 12 and 13, the tables, the rest of a text
 mod scan; // the two passes over a text
 

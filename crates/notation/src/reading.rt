@@ -8,7 +8,7 @@ use reader::rest_from;
 use tables::Table;
 use verdicts::Told;
 
-#[derive(Drop)]
+#[derive(Clone, Copy)]
 pub struct Text;
 
 impl Text {
@@ -17,7 +17,7 @@ impl Text {
 }
 
 // Refusal 12 with its place; refusal 13; or the numbers of commands and threads.
-#[derive(Drop)]
+#[derive(Clone, Copy)]
 pub enum Reading {
     Unfit(usize),
     Over,

@@ -8,7 +8,7 @@ use grammar::{Met, State, TokenMove, may_end, take_token};
 use reader::token_from;
 
 // Refused at a place, or of the notation, with so many commands and threads.
-#[derive(Drop)]
+#[derive(Clone, Copy)]
 pub(crate) enum Scanned {
     Refused(usize),
     Passed(usize, usize),

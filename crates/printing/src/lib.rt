@@ -1,4 +1,6 @@
 // Bytes and numbers into a lent room, from a place on. Each answers the place after what it put. What has no room is left out, and the place then stays at the room's end.
+#![tactic(auto)]
+
 ghost use Rattle.std.specs.Prelude.{[], ◌∷◌};
 ghost use Rattle.printing.specs.Figures.{figures};
 ghost use Rattle.printing.specs.Putting.{PutsBytes};

@@ -7,7 +7,7 @@ ghost use Rattle.probe.specs.Needs.{Counted, PairsCounted};
 use sheet::Sheet;
 use verdicts::Told;
 
-#[derive(Drop)]
+#[derive(Clone, Copy)]
 pub(crate) struct Answer;
 
 impl Answer {

@@ -4,7 +4,7 @@ ghost use Rattle.probe.specs.Numbers.{sizes_of_reading};
 
 use notation::Reading;
 
-#[derive(Drop)]
+#[derive(Clone, Copy)]
 pub(crate) struct Sizes {
     pub(crate) commands: usize,
     pub(crate) threads: usize,

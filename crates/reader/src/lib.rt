@@ -1,10 +1,12 @@
 // A reader stands on the text it was lent and on a place in it. What takes or gives a reader is thin: its work is done by functions of a slice and a number.
+#![tactic(auto)]
+
 ghost use Rattle.grammar.specs.Promise.{AnswersTokenAt};
 ghost use Rattle.reader.specs.Promise.{StandsAt, AnswersRest};
 
 use grammar::{Met, token_at};
 
-#[derive(Drop)]
+#[derive(Clone, Copy)]
 pub struct Reader<'a> {
     pub text: &'a [u8],
     pub at: usize,

@@ -9,7 +9,7 @@ use tables::Table;
 use verdicts::Verdict;
 
 // A verdict, and the generation of each command that ran.
-#[derive(Drop)]
+#[derive(Clone, Copy)]
 pub struct Judged {
     pub verdict: Verdict,
     pub generations: [u32; Table::ROWS],

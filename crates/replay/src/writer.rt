@@ -13,7 +13,7 @@ use tables::Table;
 use verdicts::Verdict;
 
 // 1 to 4, or 0 and the length of the schedule that was written.
-#[derive(Drop)]
+#[derive(Clone, Copy)]
 pub struct Written {
     pub verdict: Verdict,
     pub length: usize,

@@ -1,4 +1,6 @@
 // The report of a conclusion: its lines, into a room.
+#![tactic(auto)]
+
 ghost use Rattle.printing.specs.Putting.{PutsBytes};
 ghost use Rattle.report.specs.Report.{two_numbers, verdict_line, total_line, pair_lines, report};
 ghost use Rattle.sheet.specs.Sheet.{kept_pairs};
@@ -8,7 +10,7 @@ use sheet::{Sheet, kept};
 use verdicts::Told;
 
 // A verdict or a refusal with its place, and the fault sheet.
-#[derive(Drop)]
+#[derive(Clone, Copy)]
 pub struct Conclusion {
     pub told: Told,
     pub sheet: Sheet,

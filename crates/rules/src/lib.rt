@@ -1,4 +1,6 @@
 // The check of the tables: refusals 1 to 3.
+#![tactic(auto)]
+
 ghost use Rattle.std.specs.Prelude.{◌≡◌};
 ghost use Rattle.rules.specs.Rules.{does_row_keep, first_bad_of};
 ghost use Rattle.rules.specs.Promise.{AnswersBadCommands, AnswersCheckTables};

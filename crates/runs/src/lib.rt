@@ -1,4 +1,6 @@
 // Runs of a kernel by a warp, of at most so many steps, for any numbers in any place.
+#![tactic(auto)]
+
 ghost use Rattle.std.specs.Prelude.{◌≡◌, ◌≤◌};
 ghost use Rattle.kernels.specs.Limits.{most_statements};
 ghost use Rattle.kernels.specs.Rows.{statements};
@@ -8,7 +10,7 @@ use kernels::{Kernel, ruling};
 use machine::{Stack, start_warp, step_warp};
 
 // How a run ends.
-#[derive(Drop)]
+#[derive(Clone, Copy)]
 pub struct Ending;
 
 impl Ending {
@@ -20,7 +22,7 @@ impl Ending {
 }
 
 // The number of a refusal with its place, or 0; how the run ended, or 0; and how many steps it took.
-#[derive(Drop)]
+#[derive(Clone, Copy)]
 pub struct Course {
     pub number: u32,
     pub place: usize,

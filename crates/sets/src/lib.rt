@@ -1,4 +1,6 @@
 // A set of threads: bit t mod 64 of word ⌊t/64⌋ is set exactly when thread t is in it. No set has a thread past the limit.
+#![tactic(auto)]
+
 ghost use Rattle.std.specs.Prelude.{◌≡◌, ◌^◌, ◌<◌};
 ghost use Rattle.std.specs.Int.Bits.{bit_and, bit_xor};
 ghost use Rattle.sets.specs.Words.{put_bit};
@@ -6,7 +8,7 @@ ghost use Rattle.sets.specs.Promise.{AnswersSetNone, AnswersHas, AnswersPut, Ans
 
 use tables::Table;
 
-#[derive(Drop)]
+#[derive(Clone, Copy)]
 pub struct Set {
     pub(crate) words: [u64; Set::WORDS],
 }

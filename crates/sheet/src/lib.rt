@@ -1,15 +1,17 @@
 // The fault sheet: the first pairs that are found are kept, and later ones only raise the total.
+#![tactic(auto)]
+
 ghost use Rattle.std.specs.Prelude.{◌≡◌};
 ghost use Rattle.sheet.specs.Sheet.{raised};
 ghost use Rattle.sheet.specs.Promise.{AnswersKept, AnswersEmpty, AddsPair};
 
-#[derive(Drop)]
+#[derive(Clone, Copy)]
 pub struct Pair {
     pub first: usize,
     pub second: usize,
 }
 
-#[derive(Drop)]
+#[derive(Clone, Copy)]
 pub struct Sheet {
     pub pairs: [Pair; Sheet::KEPT],
     pub total: usize,

@@ -1,7 +1,7 @@
 // Classes of bytes, and runs of bytes of one class.
 ghost use Rattle.spelling.specs.Promise.{AnswersClassOf, AnswersRunOf};
 
-#[derive(Drop)]
+#[derive(Clone, Copy)]
 pub struct Byte;
 
 impl Byte {

@@ -3,7 +3,7 @@ ghost use Rattle.spelling.specs.Promise.{AnswersReadNumber};
 
 use crate::bytes::{Byte, class_of};
 
-#[derive(Drop)]
+#[derive(Clone, Copy)]
 pub enum Numeral {
     Number(u32),
     NotNumber,

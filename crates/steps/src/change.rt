@@ -8,7 +8,7 @@ use crate::step::{Did, How};
 use barriers::{Barrier, Met, more};
 
 // What the step did; what its thread waits for then; what those waited for who are released, or 0; and the barrier.
-#[derive(Drop)]
+#[derive(Clone, Copy)]
 pub(crate) struct Change {
     pub(crate) did: Did,
     pub(crate) wait: u32,

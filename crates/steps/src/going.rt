@@ -15,7 +15,7 @@ use turns::{at, put, settle};
 use verdicts::Verdict;
 
 // Where a replay has come to: the state, each command's generation, the steps that ran, and 5, 7 or, if all ran, 0.
-#[derive(Drop)]
+#[derive(Clone, Copy)]
 pub struct Replayed {
     pub state: Replay,
     pub generations: [u32; Table::ROWS],

@@ -1,4 +1,6 @@
 // The steps of a replay, from any state, over any tables: one step, any entries of a schedule, how a replay ended, and the schedule that a choice writes.
+#![tactic(auto)]
+
 mod change; // what a step changes
 mod ending; // verdicts 6, 8 and 9: how a replay that went through ended
 mod firsts; // where each thread's rows begin

@@ -7,7 +7,7 @@ use tables::Table;
 use turns::{allows, at};
 
 // May the thread step, and with which command? Does that enter a barrier, which, with what count, and does it block?
-#[derive(Drop)]
+#[derive(Clone, Copy)]
 pub(crate) struct Row {
     pub(crate) allowed: bool,
     pub(crate) command: usize,

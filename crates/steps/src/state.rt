@@ -5,7 +5,7 @@ use barriers::{Barrier, Phase};
 use tables::Table;
 
 // How many commands each thread has run; what it waits for, 0 or the barrier plus 1; the barriers.
-#[derive(Drop)]
+#[derive(Clone, Copy)]
 pub struct Replay {
     pub(crate) next: [u32; Table::THREADS],
     pub(crate) waits: [u32; Table::THREADS],

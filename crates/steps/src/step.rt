@@ -10,20 +10,20 @@ use tables::first_row;
 use turns::{at, settle};
 
 // An allowed step met a mismatch at a command, or ran a command, which has this generation.
-#[derive(Drop)]
+#[derive(Clone, Copy)]
 pub enum How {
     Mismatch(usize),
     Ran(usize, u32),
 }
 
-#[derive(Drop)]
+#[derive(Clone, Copy)]
 pub enum Did {
     NotAllowed,
     Took(How),
 }
 
 // The state after a step, and beside it what the step did.
-#[derive(Drop)]
+#[derive(Clone, Copy)]
 pub struct Stepped {
     pub after: Replay,
     pub did: Did,

@@ -1,5 +1,5 @@
 // The table type. Its limits and the kinds of its rows are named here once; the definitions hold them to the numbers of the rules (R2, R4, R5, R7).
-#[derive(Drop)]
+#[derive(Clone, Copy)]
 pub struct Table;
 
 impl Table {

@@ -7,7 +7,7 @@ use crate::choice::has_left;
 use sets::Set;
 use tables::Table;
 
-#[derive(Drop)]
+#[derive(Clone, Copy)]
 pub struct Ready {
     pub(crate) left: Set,
     pub(crate) first: Set,

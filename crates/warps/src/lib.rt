@@ -14,3 +14,5 @@
 // To believe these, read specs/ beside document 001, in the order of its Lib. proofs/Theorems has one proof for each name of Claims.
 //
 // What the crate does not know: arrays, words and bits, limits, tables and rows, refusals.
+#![tactic(auto)]
+

@@ -1,4 +1,6 @@
 // The lines of evidence: what a schedule shows, in words, and the schedule, into a room from a place on. Each answers the place after what it put.
+#![tactic(auto)]
+
 ghost use Rattle.std.specs.Prelude.{◌≡◌, ◌++◌};
 ghost use Rattle.printing.specs.Figures.{figures};
 ghost use Rattle.printing.specs.Putting.{PutsBytes};
@@ -8,7 +10,7 @@ ghost use Rattle.wording.specs.Lines.{shown_line, parting_byte, steps_line};
 use printing::{put, put_byte, put_number};
 
 // One command before another; another generation than the one offered; or an end in 7, 8 or 9.
-#[derive(Drop)]
+#[derive(Clone, Copy)]
 pub enum Shown {
     First(usize, usize),
     Generation(usize, u32, u32),
