@@ -1,0 +1,12 @@
+-- The first v words are joined. Assumes nothing.
+use Prim.Native.Nat.{◌≤◌, ◌-◌}
+use native.Mathlib.Omega.{arith}
+use Rattle.relation.proofs.Rows.{Half, half_none, half_more, half_all}
+use borrow.Author.Rules.{rules}
+use Rattle.relation.proofs.bits.join_row.Given as goal
+
+abbrev pub invariant-loop-v : goal.invariant-loop-v
+invariant-loop-v l = (l.v ≤ l.w) × Half l.initial.room l.room l.w l.i l.k l.v l.changed
+
+abbrev pub decreases-loop-v : goal.decreases-loop-v
+decreases-loop-v l = l.w - l.v

@@ -1,0 +1,17 @@
+-- The first p words are zeros. Assumes nothing.
+use Prim.Native.Nat.{ℕ, ◌≤◌, ◌-◌}
+use native.Mathlib.Omega.{arith}
+use mathlib.Core.Path.{◌≡◌, refl, ap, ◌∙◌}
+use mathlib.Core.List.{List, ◌++◌}
+use lib.ListN.{length, replicate, drop, set}
+use borrow.Author.Fill.{fill_none, fill_more}
+use Rattle.relation.specs.Table.{words}
+use Rattle.relation.proofs.Rooms.{cleared, written, refused}
+use borrow.Author.Rules.{rules}
+use Rattle.relation.proofs.table.clear.Given as goal
+
+abbrev pub invariant-loop-p : goal.invariant-loop-p
+invariant-loop-p l = (l.p ≤ l.n) × (length l.room ≡ length l.initial.room) × (l.room ≡ replicate l.p 0 ++ drop l.p l.initial.room)
+
+abbrev pub decreases-loop-p : goal.decreases-loop-p
+decreases-loop-p l = l.n - l.p
