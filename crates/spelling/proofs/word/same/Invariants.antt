@@ -1,0 +1,15 @@
+-- `same` meets its contract: the bytes that the loop has passed are those of the word. Assumes nothing.
+use mathlib.Core.Path.{◌≡◌, refl, sym, ◌∙◌}
+use Prim.Native.Nat.{◌-◌}
+use native.Mathlib.Omega.{arith}
+use lib.ListN.{length, drop}
+use borrow.Author.Rules.{rules}
+use Rattle.spelling.specs.Words.{same_bytes}
+use Rattle.spelling.proofs.Words.{alike_long, alike_on, alike_off, alike_out}
+use Rattle.spelling.proofs.word.same.Given as goal
+
+abbrev pub invariant-loop-i : goal.invariant-loop-i
+invariant-loop-i l = same_bytes (drop l.i l.bytes) (drop l.i l.word) ≡ same_bytes l.bytes l.word
+
+abbrev pub decreases-loop-i : goal.decreases-loop-i
+decreases-loop-i l = length l.bytes - l.i
