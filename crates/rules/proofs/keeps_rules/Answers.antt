@@ -4,16 +4,12 @@ use mathlib.Core.Bool.{and_assoc}
 use borrow.Author.Tests.{lt-ltb, le-ltb}
 use Rattle.tables.specs.Limits.{addresses, barriers, most_count}
 use Rattle.rules.specs.Rules.{does_row_keep}
-use Rattle.rules.proofs.keeps_rules.Statement.{statement}
-use Rattle.rules.proofs.keeps_rules.Tie as tie
+use Rattle.rules.proofs.keeps_rules.Goals as goal
 
-returns : tie.Need-returns
+pub returns-then-kind-lt-ARRIVE : goal.returns-then-kind-lt-ARRIVE
 unfolding does_row_keep addresses barriers most_count
-returns c = simp (lt-ltb _ _ c.if1.true)
+returns-then-kind-lt-ARRIVE c = simp (lt-ltb _ _ c.if-kind-lt-ARRIVE.true)
 
-returns-2 : tie.Need-returns-2
+pub returns : goal.returns
 unfolding does_row_keep addresses barriers most_count
-returns-2 c = simp (le-ltb _ _ c.if1.false, and_assoc) refl
-
-pub keeps-rules-spec : {M : Type 1} → statement M
-keeps-rules-spec = tie.close (tie.spec returns returns-2)
+returns c = simp (le-ltb _ _ c.if-kind-lt-ARRIVE.false, and_assoc) refl
