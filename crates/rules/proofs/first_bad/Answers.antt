@@ -15,10 +15,10 @@ pub returns-then-not-keeps_rules : goal.returns-then-not-keeps_rules
 unfolding first_bad_of
 returns-then-not-keeps_rules c =
     let l = c.loop-c in
-    sym (lowest_is _ (record { at_most = l.invariant.1; passes = λ _. ap not (sym c.keeps_rules.ensures) ∙ c.if-not-keeps_rules.true; below = l.invariant.0 }))
+    sym (lowest_is _ (record { at_most = l.invariant.1; passes = λ _. ap not (sym c.keeps_rules.ensures ∙ c.if-not-keeps_rules.true); below = l.invariant.0 }))
 
 pub loop-c-preserved : goal.loop-c-preserved
-loop-c-preserved c = (below_more _ _ c.loop-c.invariant.0 (ap not (sym c.keeps_rules.ensures) ∙ c.if-not-keeps_rules.false), search rules)
+loop-c-preserved c = (below_more _ _ c.loop-c.invariant.0 (ap not (sym c.keeps_rules.ensures ∙ c.if-not-keeps_rules.false)), search rules)
 
 pub returns : goal.returns
 unfolding first_bad_of
