@@ -3,4 +3,4 @@ use borrow.Author.Rules.{rules}
 use Rattle.turns.proofs.choice.allows.Goals as goal
 
 pub returns : goal.returns
-returns c = rw c.Has-left.ensures
+returns c = rw c.has_left.ensures

@@ -10,7 +10,7 @@ pub loop-t-init : goal.loop-t-init
 loop-t-init c = (search rules, held_none _ c.none-blocked.ensures)
 
 pub loop-t-preserved : goal.loop-t-preserved
-loop-t-preserved c = (search rules, held_more _ _ c.loop-t.invariant.1 c.is_held_lem.ensures c.put-blocked.ensures)
+loop-t-preserved c = (search rules, held_more _ _ c.loop-t.invariant.1 c.is_held.ensures c.put-blocked.ensures)
 
 pub returns : goal.returns
 returns c = held_all _ c.loop-t.invariant.1 c.loop-t.invariant.0 c.loop-t-test.false

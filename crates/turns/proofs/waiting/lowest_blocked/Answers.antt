@@ -9,11 +9,11 @@ pub loop-t-init : goal.loop-t-init
 loop-t-init c = scan_none _ _
 
 pub returns-then-is_held : goal.returns-then-is_held
-returns-then-is_held c = scan_found _ c.loop-t.invariant (sym c.is_held_lem.ensures ∙ c.if-is_held.true)
+returns-then-is_held c = scan_found _ c.loop-t.invariant (sym c.is_held.ensures ∙ c.if-is_held.true)
 
 pub loop-t-preserved : goal.loop-t-preserved
 loop-t-preserved c =
-    scan_more _ c.loop-t.invariant c.loop-t-test.true (sym c.is_held_lem.ensures ∙ c.if-is_held.false)
+    scan_more _ c.loop-t.invariant c.loop-t-test.true (sym c.is_held.ensures ∙ c.if-is_held.false)
 
 pub returns : goal.returns
 returns c = scan_end _ c.loop-t.invariant c.loop-t-test.false
