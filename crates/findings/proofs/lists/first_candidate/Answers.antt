@@ -29,3 +29,39 @@ returns-in-Race c =
     let e = c.in-Race.is in
     let is = sym c.listed.ensures ∙ c.if-not-listed.false in
     rw e (candidate_above (rw e at (c.requires.lists.next c.args.i (omega arith) c.requires.there is)))
+
+pub listed-requires : goal.listed-requires
+unfolding most_rows
+listed-requires c = search rules
+
+pub enum_told-1 : goal.enum_told-1
+unfolding most_rows
+enum_told-1 c = search rules
+
+pub overflow_sub-barrier_list : goal.overflow_sub-barrier_list
+unfolding most_rows
+overflow_sub-barrier_list c = search rules
+
+pub barrier_list-requires : goal.barrier_list-requires
+unfolding most_rows
+barrier_list-requires c = search rules
+
+pub offset_bounds-fronts-barrier_list : goal.offset_bounds-fronts-barrier_list
+unfolding most_rows
+offset_bounds-fronts-barrier_list c = search rules
+
+pub bounds-fronts-barrier_list : goal.bounds-fronts-barrier_list
+unfolding most_rows
+bounds-fronts-barrier_list c = search rules
+
+pub enum_told-in-Race : goal.enum_told-in-Race
+unfolding most_rows
+enum_told-in-Race c = search rules
+
+pub offset_bounds-nexts-i : goal.offset_bounds-nexts-i
+unfolding most_rows
+offset_bounds-nexts-i c = search rules
+
+pub bounds-nexts-i : goal.bounds-nexts-i
+unfolding most_rows
+bounds-nexts-i c = search rules

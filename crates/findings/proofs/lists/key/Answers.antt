@@ -19,3 +19,35 @@ returns-in-Reuse c =
 pub returns-in-Race : goal.returns-in-Race
 unfolding most_rows
 returns-in-Race c = rw c.in-Race.is (ap (λ (n : ℕ). n % 512) c.wide.ensures.0, omega arith)
+
+pub enum_told-1 : goal.enum_told-1
+unfolding most_rows
+enum_told-1 c = search rules
+
+pub barrier_list-requires : goal.barrier_list-requires
+unfolding most_rows
+barrier_list-requires c = search rules
+
+pub enum_told-in-Race : goal.enum_told-in-Race
+unfolding most_rows
+enum_told-in-Race c = search rules
+
+pub overflow_mul-c : goal.overflow_mul-c
+unfolding most_rows
+overflow_mul-c c = search rules
+
+pub overflow_add-c : goal.overflow_add-c
+unfolding most_rows
+overflow_add-c c = search rules
+
+pub offset_bounds-commands-c : goal.offset_bounds-commands-c
+unfolding most_rows
+offset_bounds-commands-c c = search rules
+
+pub bounds-commands-c : goal.bounds-commands-c
+unfolding most_rows
+bounds-commands-c c = search rules
+
+pub wide-requires : goal.wide-requires
+unfolding most_rows
+wide-requires c = search rules

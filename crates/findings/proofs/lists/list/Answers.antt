@@ -39,3 +39,47 @@ shape_of-nexts c = c.loop-c.invariant.1.nexts_fit ∙ sym c.requires.nexts_fit
 
 pub returns : goal.returns
 returns c = let e : c.loop-c.c ≡ 0 = omega (arith, c.loop-c-test.false) in rw e at c.loop-c.invariant.1
+
+pub overflow_sub-c : goal.overflow_sub-c
+unfolding most_rows
+overflow_sub-c c = search rules
+
+pub listed-requires : goal.listed-requires
+unfolding most_rows
+listed-requires c = search rules
+
+pub key-k-requires : goal.key-k-requires
+unfolding most_rows
+key-k-requires c = search rules
+
+pub offset_bounds-fronts-k : goal.offset_bounds-fronts-k
+unfolding most_rows
+offset_bounds-fronts-k c = search rules
+
+pub bounds-fronts-k : goal.bounds-fronts-k
+unfolding most_rows
+bounds-fronts-k c = search rules
+
+pub offset_bounds-nexts-c : goal.offset_bounds-nexts-c
+unfolding most_rows
+offset_bounds-nexts-c c = search rules
+
+pub bounds-nexts-c : goal.bounds-nexts-c
+unfolding most_rows
+bounds-nexts-c c = search rules
+
+pub offset_bounds-fronts-k-then-listed : goal.offset_bounds-fronts-k-then-listed
+unfolding most_rows
+offset_bounds-fronts-k-then-listed c = search rules
+
+pub bounds-fronts-k-then-listed : goal.bounds-fronts-k-then-listed
+unfolding most_rows
+bounds-fronts-k-then-listed c = search rules
+
+pub loop-c-smaller-then-listed : goal.loop-c-smaller-then-listed
+unfolding most_rows
+loop-c-smaller-then-listed c = search rules
+
+pub loop-c-smaller : goal.loop-c-smaller
+unfolding most_rows
+loop-c-smaller c = search rules

@@ -51,3 +51,19 @@ returns c =
     let a = c.args in
     let e : min l.j (rows a.commands.now) ≡ rows a.commands.now = omega (arith, c.loop-j-test.false) in
     rw e at l.invariant.0
+
+pub first_candidate-j-requires : goal.first_candidate-j-requires
+unfolding most_rows
+first_candidate-j-requires c = search rules
+
+pub fault_at-requires : goal.fault_at-requires
+unfolding most_rows
+fault_at-requires c = search rules
+
+pub offset_bounds-nexts-j : goal.offset_bounds-nexts-j
+unfolding most_rows
+offset_bounds-nexts-j c = search rules
+
+pub bounds-nexts-j : goal.bounds-nexts-j
+unfolding most_rows
+bounds-nexts-j c = search rules

@@ -58,3 +58,27 @@ returns c =
     let a = c.args in
     let e : min l.j (rows a.commands.now) ≡ rows a.commands.now = omega (arith, c.loop-j-test.false) in
     rw e at l.invariant.0
+
+pub first_candidate-j-requires : goal.first_candidate-j-requires
+unfolding most_rows most_kept
+first_candidate-j-requires c = search rules
+
+pub fault_at-requires : goal.fault_at-requires
+unfolding most_rows most_kept
+fault_at-requires c = search rules
+
+pub pair_of-requires : goal.pair_of-requires
+unfolding most_rows most_kept
+pair_of-requires c = search rules
+
+pub with_pair-found-requires : goal.with_pair-found-requires
+unfolding most_rows most_kept
+with_pair-found-requires c = search rules
+
+pub offset_bounds-nexts-j : goal.offset_bounds-nexts-j
+unfolding most_rows most_kept
+offset_bounds-nexts-j c = search rules
+
+pub bounds-nexts-j : goal.bounds-nexts-j
+unfolding most_rows most_kept
+bounds-nexts-j c = search rules

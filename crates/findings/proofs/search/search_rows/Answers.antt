@@ -55,3 +55,19 @@ returns c =
     let a = c.args in
     let e : l.i ≡ rows a.commands.now = omega (arith, c.loop-i-test.false, l.invariant.0) in
     rw e at l.invariant.1
+
+pub empty-found-requires : goal.empty-found-requires
+unfolding most_rows most_kept
+empty-found-requires c = search rules
+
+pub count_row-n-requires : goal.count_row-n-requires
+unfolding most_rows most_kept
+count_row-n-requires c = search rules
+
+pub overflow_add-i : goal.overflow_add-i
+unfolding most_rows most_kept
+overflow_add-i c = search rules
+
+pub loop-i-smaller : goal.loop-i-smaller
+unfolding most_rows most_kept
+loop-i-smaller c = search rules

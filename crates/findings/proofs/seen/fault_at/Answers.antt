@@ -12,3 +12,19 @@ unfolding is_fault_at
 returns c =
     let a = c.args in
     c.is_fault.ensures ∙ ap₂ (is_fault a.relation.now (rows a.commands.now) a.fault) c.see-outer.ensures c.see-inner.ensures
+
+pub see-outer-requires : goal.see-outer-requires
+unfolding most_rows
+see-outer-requires c = search rules
+
+pub see-inner-requires : goal.see-inner-requires
+unfolding most_rows
+see-inner-requires c = search rules
+
+pub overflow_cast-commands : goal.overflow_cast-commands
+unfolding most_rows
+overflow_cast-commands c = search rules
+
+pub is_fault-requires : goal.is_fault-requires
+unfolding most_rows
+is_fault-requires c = search rules

@@ -9,3 +9,11 @@ returns-then-next-m c = simp (lt-ltb _ _ c.if-next-m.true, c.is_first_in_thread.
 
 pub returns : goal.returns
 returns c = simp (le-ltb _ _ c.if-next-m.false)
+
+pub overflow_add-next : goal.overflow_add-next
+unfolding most_rows
+overflow_add-next c = search rules
+
+pub is_first-requires : goal.is_first-requires
+unfolding most_rows
+is_first-requires c = search rules

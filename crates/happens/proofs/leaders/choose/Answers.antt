@@ -31,3 +31,39 @@ shape_of-leaders c = c.loop-c.invariant.1 ∙ sym c.requires.2
 
 pub returns : goal.returns
 returns c = λ x l. c.loop-c.invariant.2 x (omega (arith, c.loop-c-test.false))
+
+pub overflow_mul-c : goal.overflow_mul-c
+unfolding most_rows barriers
+overflow_mul-c c = search rules
+
+pub offset_bounds-commands-c : goal.offset_bounds-commands-c
+unfolding most_rows barriers
+offset_bounds-commands-c c = search rules
+
+pub bounds-commands-c : goal.bounds-commands-c
+unfolding most_rows barriers
+bounds-commands-c c = search rules
+
+pub seat-at-requires : goal.seat-at-requires
+unfolding most_rows barriers
+seat-at-requires c = search rules
+
+pub overflow_cast-leaders : goal.overflow_cast-leaders
+unfolding most_rows barriers
+overflow_cast-leaders c = search rules
+
+pub offset_bounds-leaders-at : goal.offset_bounds-leaders-at
+unfolding most_rows barriers
+offset_bounds-leaders-at c = search rules
+
+pub bounds-leaders-at : goal.bounds-leaders-at
+unfolding most_rows barriers
+bounds-leaders-at c = search rules
+
+pub overflow_add-c : goal.overflow_add-c
+unfolding most_rows barriers
+overflow_add-c c = search rules
+
+pub loop-c-smaller : goal.loop-c-smaller
+unfolding most_rows barriers
+loop-c-smaller c = search rules

@@ -30,3 +30,27 @@ returns c =
     let a = c.args in
     let e = sat a.leaders.now c.seat-at.ensures.0 c.wide_seat-sits.ensures in
     sym (or_none _ _ _ (rw e at (sym c.meets_row.ensures ∙ c.if-meets_row.false)) (rw e at c.if-sits-m.false))
+
+pub seat-at-requires : goal.seat-at-requires
+unfolding most_rows barriers
+seat-at-requires c = search rules
+
+pub offset_bounds-leaders-at : goal.offset_bounds-leaders-at
+unfolding most_rows barriers
+offset_bounds-leaders-at c = search rules
+
+pub bounds-leaders-at : goal.bounds-leaders-at
+unfolding most_rows barriers
+bounds-leaders-at c = search rules
+
+pub wide_seat-sits-requires : goal.wide_seat-sits-requires
+unfolding most_rows barriers
+wide_seat-sits-requires c = search rules
+
+pub meets_row-requires : goal.meets_row-requires
+unfolding most_rows barriers
+meets_row-requires c = search rules
+
+pub last_met-requires : goal.last_met-requires
+unfolding most_rows barriers
+last_met-requires c = search rules

@@ -23,9 +23,33 @@ pub returns : goal.returns
 unfolding most_rows
 returns c = let a = c.args in adds_one a.pairs.now a.n a.i a.k (omega arith) c.if-not-found.false
 
+pub overflow_mul-at : goal.overflow_mul-at
+unfolding most_rows
+overflow_mul-at c = search rules
+
+pub offset_bounds-pairs-at : goal.offset_bounds-pairs-at
+unfolding most_rows
+offset_bounds-pairs-at c = search rules
+
+pub bounds-pairs-at : goal.bounds-pairs-at
+unfolding most_rows
+bounds-pairs-at c = search rules
+
+pub overflow_add-pairs : goal.overflow_add-pairs
+unfolding most_rows
+overflow_add-pairs c = search rules
+
+pub offset_bounds-pairs-at-2 : goal.offset_bounds-pairs-at-2
+unfolding most_rows
+offset_bounds-pairs-at-2 c = search rules
+
 pub bounds-pairs-at-2 : goal.bounds-pairs-at-2
 unfolding most_rows
 bounds-pairs-at-2 c = let a = c.args in omega (arith, c.requires.0, length-set a.pairs.now (a.n * 2) a.i)
+
+pub overflow_add-result : goal.overflow_add-result
+unfolding most_rows
+overflow_add-result c = search rules
 
 pub shape_of-pairs : goal.shape_of-pairs
 unfolding most_rows

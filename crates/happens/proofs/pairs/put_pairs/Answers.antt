@@ -47,3 +47,19 @@ returns c =
     let l = c.loop-c in
     let e : l.c ≡ rows c.args.commands.now = omega (arith, l.invariant.0, c.loop-c-test.false) in
     rw e at l.invariant.3
+
+pub is_first-requires : goal.is_first-requires
+unfolding most_rows
+is_first-requires c = search rules
+
+pub overflow_add-c : goal.overflow_add-c
+unfolding most_rows
+overflow_add-c c = search rules
+
+pub loop-c-smaller : goal.loop-c-smaller
+unfolding most_rows
+loop-c-smaller c = search rules
+
+pub shape_of-parts : goal.shape_of-parts
+unfolding most_rows
+shape_of-parts c = search rules
