@@ -5,21 +5,16 @@ use lib.Dec.{eqb}
 use borrow.Author.Rules.{rules}
 use Rattle.kernels.specs.Rows.{kind_of, x_of, call_kind}
 use Rattle.kernels.specs.Refusals.{has_body, uses}
-use Rattle.kernels.proofs.rows.has.Statement.{statement}
-use Rattle.kernels.proofs.rows.has.Tie as tie
+use Rattle.kernels.proofs.rows.has.Goals as goal
 
 -- a call counts where it is asked for
 counted : (calls body call : Bool) → body || (calls && call) ≡ cond calls (body || call) body
 counted true body call = refl
 counted false body call = or-false body
 
-returns : tie.Need-returns
+pub returns : goal.returns
 unfolding uses has_body
 returns c =
-    let n = c.before.before.before in
-    let a = n.before.before.args in
-    simp (n.number.ensures, c.before.before.number2.ensures, c.before.number3.ensures, c.number4.ensures)
+    let a = c.args in
+    simp (c.number-kind.ensures, c.number-y.ensures, c.number.ensures, c.number-2.ensures)
     (counted a.calls (has_body a.s.now a.b a.i) (eqb (kind_of a.s.now a.i) call_kind && eqb (x_of a.s.now a.i) a.b))
-
-pub has-spec : {M : Type 1} → statement M
-has-spec = tie.close (tie.spec (λ c κs. search rules) (λ c κs. search rules) (λ c κs. search rules) (λ c κs. search rules) returns)
