@@ -1,0 +1,11 @@
+-- `acting_in` meets its contract: the word has the lanes that the loop has passed. Assumes nothing.
+use Rattle.std.proofs.Common.{◌≡◌, ◌-◌, ◌≤◌, ap, ◌∙◌, arith, rules}
+use Rattle.values.specs.Expressions.{expression, acting}
+use Rattle.values.proofs.Lanewise.{acts_as, acting_none, acting_hit, acting_miss}
+use Rattle.values.proofs.acting.acting_in.Given as goal
+
+abbrev pub invariant-loop-t : goal.invariant-loop-t
+invariant-loop-t l = (l.t ≤ l.count) × (l.found ≡ acting l.mask (expression l.expressions l.root) l.cells l.t)
+
+abbrev pub decreases-loop-t : goal.decreases-loop-t
+decreases-loop-t l = l.count - l.t
