@@ -1,6 +1,6 @@
 -- Table 2 as a function, and who writes last.
 use mathlib.Core.Path.{◌≡◌, refl, sym, ap, ◌∙◌, subst}
-use mathlib.Core.Logic.{◌⊎◌, ⊎_elim, by_cases, ◌≢◌}
+use mathlib.Core.Logic.{⊎_elim, by_cases, ◌≢◌}
 use mathlib.Core.Bool.{Bool, true, false, ◌||◌, cond}
 use mathlib.Core.List.{List, [], ◌∷◌}
 use Prim.Native.Nat.{ℕ, zero, suc, ◌<◌}

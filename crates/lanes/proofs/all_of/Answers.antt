@@ -1,6 +1,5 @@
 -- `all_of` meets its contract: 32 lanes are the whole word, and fewer are those below a bit. Assumes nothing.
 use native.Mathlib.Omega.{arith}
-use borrow.Author.Rules.{rules}
 use Rattle.lanes.proofs.Answers.{all_some, all_least, all_most}
 use Rattle.lanes.proofs.all_of.Goals as goal
 

@@ -1,6 +1,4 @@
 -- `highest` meets its contract: by the zeros above the highest lane. Assumes nothing.
-use mathlib.Core.Path.{sym}
-use borrow.Author.Rules.{rules}
 use native.Mathlib.Omega.{arith}
 use Rattle.lanes.proofs.Answers.{highest_none, highest_leading}
 use Rattle.lanes.proofs.highest.Goals as goal

@@ -1,10 +1,6 @@
 use mathlib.Core.Path.{refl}
-use Prim.Native.Nat.{◌-◌}
 use native.Mathlib.Omega.{arith}
-use lib.ListN.{length}
-use Rattle.runs.specs.Run.{kernel_run, tell_run}
-use Rattle.runs.proofs.Running.{Going, going_start, told_by, run_done, run_spent, run_high, run_full, run_on}
-use borrow.Author.Rules.{rules}
+use Rattle.runs.proofs.Running.{going_start, told_by, run_done, run_spent, run_high, run_full, run_on}
 use Rattle.runs.proofs.run_from.Goals as goal
 
 pub loop-stand-init : goal.loop-stand-init

@@ -1,11 +1,8 @@
 -- `run_from` meets its contract: what the loop has come to is the warp after the steps taken. Assumes nothing.
-use mathlib.Core.Path.{refl}
 use Prim.Native.Nat.{◌-◌}
-use native.Mathlib.Omega.{arith}
 use lib.ListN.{length}
 use Rattle.runs.specs.Run.{kernel_run, tell_run}
-use Rattle.runs.proofs.Running.{Going, going_start, told_by, run_done, run_spent, run_high, run_full, run_on}
-use borrow.Author.Rules.{rules}
+use Rattle.runs.proofs.Running.{Going}
 use Rattle.runs.proofs.run_from.Given as goal
 
 abbrev pub invariant-loop-stand : goal.invariant-loop-stand

@@ -1,7 +1,6 @@
 -- `run_kernel` meets its contract: a short room, a refusal, or the run. Assumes nothing.
 use native.Mathlib.Omega.{arith}
 use Rattle.runs.proofs.Running.{door_small, door_refused, door_run, door_few}
-use borrow.Author.Rules.{rules}
 use Rattle.runs.proofs.run_kernel.Goals as goal
 
 pub returns-then-cells-lt-CELLS : goal.returns-then-cells-lt-CELLS

@@ -1,9 +1,8 @@
 use mathlib.Core.Path.{◌≡◌, sym}
 use mathlib.Core.Bool.{Bool}
 use mathlib.Core.List.{List}
-use Prim.Native.Nat.{ℕ, ◌-◌}
-use borrow.Author.Rules.{rules}
-use Rattle.tables.proofs.Scans.{Scanned, scan_none, scan_more}
+use Prim.Native.Nat.{ℕ}
+use Rattle.tables.proofs.Scans.{scan_none, scan_more}
 use Rattle.kernels.specs.Rows.{expr_kind, expr_x, expr_y}
 use Rattle.kernels.specs.Refusals.{does_expression_fail, bad_expression}
 use Rattle.kernels.proofs.Finds.{some_found, some_end}

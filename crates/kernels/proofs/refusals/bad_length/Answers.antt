@@ -1,6 +1,5 @@
 -- `bad_length` meets its contract: its tests are the definition's. Assumes nothing.
 use mathlib.Core.Path.{refl}
-use borrow.Author.Rules.{rules}
 use Rattle.kernels.specs.Refusals.{is_bad_length}
 use Rattle.kernels.proofs.refusals.bad_length.Goals as goal
 

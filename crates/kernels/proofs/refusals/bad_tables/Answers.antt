@@ -1,6 +1,5 @@
 -- `bad_tables` meets its contract: its tests are the definition's, in two parts. Assumes nothing.
 use mathlib.Core.Path.{sym, ◌∙◌}
-use borrow.Author.Rules.{rules}
 use Rattle.kernels.specs.Limits.{most_statements, most_expressions, most_lanes}
 use Rattle.kernels.specs.Refusals.{are_bad_tables}
 use Rattle.kernels.proofs.refusals.bad_tables.Goals as goal

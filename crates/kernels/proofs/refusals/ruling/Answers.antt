@@ -1,7 +1,6 @@
 -- `ruling` meets its contract: what its tests find are the facts that each answer asks for, in their order. Assumes nothing.
 use mathlib.Core.Path.{sym, ap, ◌∙◌}
 use native.Mathlib.Omega.{arith}
-use borrow.Author.Rules.{rules}
 use Rattle.kernels.specs.Refusals.{rule}
 use Rattle.kernels.proofs.Answers.{refuses_tables, refuses_statement, refuses_break, refuses_none}
 use Rattle.kernels.proofs.refusals.ruling.Goals as goal

@@ -2,7 +2,6 @@
 use mathlib.Core.Path.{◌≡◌, refl}
 use mathlib.Core.Bool.{Bool, true, false, cond, ◌&&◌, ◌||◌, or-false}
 use lib.Dec.{eqb}
-use borrow.Author.Rules.{rules}
 use Rattle.kernels.specs.Rows.{kind_of, x_of, call_kind}
 use Rattle.kernels.specs.Refusals.{has_body, uses}
 use Rattle.kernels.proofs.rows.has.Goals as goal

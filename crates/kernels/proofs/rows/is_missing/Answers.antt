@@ -1,9 +1,7 @@
 use mathlib.Core.Path.{sym, ap, ◌∙◌}
 use mathlib.Core.Bool.{not}
-use Prim.Native.Nat.{◌-◌}
-use borrow.Author.Rules.{rules}
 use borrow.Author.Tests.{eq-eqb, ne_eqb}
-use Rattle.tables.proofs.Scans.{Scanned, scan_none, scan_more}
+use Rattle.tables.proofs.Scans.{scan_none, scan_more}
 use Rattle.kernels.specs.Refusals.{lies_in, missing}
 use Rattle.kernels.proofs.Finds.{some_found, some_end}
 use Rattle.kernels.proofs.rows.is_missing.Goals as goal

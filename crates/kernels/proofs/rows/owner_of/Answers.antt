@@ -1,8 +1,5 @@
 use mathlib.Core.Path.{sym, ◌∙◌}
-use Prim.Native.Nat.{◌-◌}
-use borrow.Author.Rules.{rules}
-use Rattle.tables.proofs.Scans.{Scanned, scan_none, scan_more, scan_found, scan_end}
-use Rattle.kernels.specs.Refusals.{has_body}
+use Rattle.tables.proofs.Scans.{scan_none, scan_more, scan_found, scan_end}
 use Rattle.kernels.proofs.rows.owner_of.Goals as goal
 
 pub loop-i-init : goal.loop-i-init

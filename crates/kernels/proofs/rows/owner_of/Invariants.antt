@@ -1,8 +1,6 @@
 -- `owner_of` meets its contract: no row that the loop has passed has the list for an arm or a body. Assumes nothing.
-use mathlib.Core.Path.{sym, ◌∙◌}
 use Prim.Native.Nat.{◌-◌}
-use borrow.Author.Rules.{rules}
-use Rattle.tables.proofs.Scans.{Scanned, scan_none, scan_more, scan_found, scan_end}
+use Rattle.tables.proofs.Scans.{Scanned}
 use Rattle.kernels.specs.Refusals.{has_body}
 use Rattle.kernels.proofs.rows.owner_of.Given as goal
 

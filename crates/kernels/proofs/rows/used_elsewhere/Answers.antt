@@ -1,9 +1,7 @@
 use mathlib.Core.Path.{◌≡◌, sym, ap, ◌∙◌}
 use mathlib.Core.Bool.{Bool, not, ◌&&◌}
-use Prim.Native.Nat.{◌-◌}
-use borrow.Author.Rules.{rules}
 use lib.Dec.{eqb}
-use Rattle.tables.proofs.Scans.{Scanned, scan_none, scan_more}
+use Rattle.tables.proofs.Scans.{scan_none, scan_more}
 use Rattle.kernels.specs.Refusals.{uses_besides, is_used_elsewhere}
 use Rattle.kernels.proofs.Finds.{some_found, some_end}
 use Rattle.kernels.proofs.rows.used_elsewhere.Goals as goal

@@ -1,5 +1,4 @@
 -- `bad_call` meets its contract: its tests are the definition's. Assumes nothing.
-use borrow.Author.Rules.{rules}
 use Rattle.kernels.specs.Refusals.{is_bad_call}
 use Rattle.kernels.proofs.statements.bad_call.Goals as goal
 

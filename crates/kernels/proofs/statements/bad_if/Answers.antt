@@ -1,5 +1,4 @@
 -- `bad_if` meets its contract: its tests are the definition's. Assumes nothing.
-use borrow.Author.Rules.{rules}
 use Rattle.kernels.specs.Refusals.{is_bad_if}
 use Rattle.kernels.proofs.statements.bad_if.Goals as goal
 

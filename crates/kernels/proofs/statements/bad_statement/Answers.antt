@@ -1,5 +1,4 @@
 -- `bad_statement` meets its contract, by the row's kind. Assumes nothing.
-use borrow.Author.Rules.{rules}
 use borrow.Author.Tests.{eq-eqb, ne_eqb}
 use Rattle.kernels.specs.Refusals.{is_bad_statement}
 use Rattle.kernels.proofs.statements.bad_statement.Goals as goal

@@ -1,5 +1,4 @@
 -- `bad_while` meets its contract: its tests are the definition's. Assumes nothing.
-use borrow.Author.Rules.{rules}
 use Rattle.kernels.specs.Refusals.{is_bad_while}
 use Rattle.kernels.proofs.statements.bad_while.Goals as goal
 

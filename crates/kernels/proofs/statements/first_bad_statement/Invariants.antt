@@ -1,8 +1,6 @@
 -- `first_bad_statement` meets its contract: no statement that the loop has passed is bad. Assumes nothing.
-use mathlib.Core.Path.{sym, ◌∙◌}
 use Prim.Native.Nat.{◌-◌}
-use borrow.Author.Rules.{rules}
-use Rattle.tables.proofs.Scans.{Scanned, scan_none, scan_more, scan_found, scan_end}
+use Rattle.tables.proofs.Scans.{Scanned}
 use Rattle.kernels.specs.Refusals.{is_bad_statement}
 use Rattle.kernels.proofs.statements.first_bad_statement.Given as goal
 

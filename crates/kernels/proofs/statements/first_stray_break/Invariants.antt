@@ -1,8 +1,6 @@
 -- `first_stray_break` meets its contract: no statement that the loop has passed is a stray break. Assumes nothing.
-use mathlib.Core.Path.{sym, ◌∙◌}
 use Prim.Native.Nat.{◌-◌}
-use borrow.Author.Rules.{rules}
-use Rattle.tables.proofs.Scans.{Scanned, scan_none, scan_more, scan_found, scan_end}
+use Rattle.tables.proofs.Scans.{Scanned}
 use Rattle.kernels.specs.Refusals.{is_stray_break}
 use Rattle.kernels.proofs.statements.first_stray_break.Given as goal
 

@@ -1,5 +1,4 @@
 -- `stray_break` meets its contract, by the row's kind. Assumes nothing.
-use borrow.Author.Rules.{rules}
 use borrow.Author.Tests.{eq-eqb, ne_eqb}
 use Rattle.kernels.specs.Refusals.{is_stray_break}
 use Rattle.kernels.proofs.statements.stray_break.Goals as goal

@@ -1,13 +1,8 @@
 -- `meets` meets its contract: the answer is the one from the list that the loop has come to, with as many rows to go as are left. Assumes nothing.
-use mathlib.Core.Path.{◌≡◌, refl, sym, ◌∙◌}
-use mathlib.Core.Bool.{Bool, true, false, cond, not, ◌&&◌, ◌||◌, or-false}
-use mathlib.Core.List.{List}
-use Prim.Native.Nat.{ℕ}
-use borrow.Author.Rules.{rules}
+use mathlib.Core.Path.{◌≡◌}
+use mathlib.Core.Bool.{cond}
 use lib.Dec.{eqb}
-use Rattle.kernels.specs.Rows.{statements, list_of, kind_of, while_kind}
 use Rattle.kernels.specs.Refusals.{meets_upwards, inside_itself, is_while, in_while}
-use Rattle.kernels.proofs.Climbing.{up_none, up_met, up_more, up_end}
 use Rattle.kernels.proofs.upwards.meets.Given as goal
 
 abbrev pub invariant-loop-left : goal.invariant-loop-left

@@ -1,6 +1,5 @@
 -- `move_on` meets its contract, by the topmost entry. Assumes nothing.
 use Rattle.machine.proofs.Obeying.{step_none, step_token, step_inact, step_row, step_again}
-use borrow.Author.Rules.{rules}
 use Rattle.machine.proofs.moves.move_on.Goals as goal
 
 pub returns-then-stand-eq0 : goal.returns-then-stand-eq0

@@ -1,7 +1,6 @@
 -- `start` meets its contract: the kernel is entered, or the room cannot be used. Assumes nothing.
 use mathlib.Core.Path.{sym, ◌∙◌}
 use Rattle.machine.proofs.Doors.{roomy, started, unstarted}
-use borrow.Author.Rules.{rules}
 use Rattle.machine.proofs.moves.start_warp.Goals as goal
 
 pub enter-top-requires : goal.enter-top-requires

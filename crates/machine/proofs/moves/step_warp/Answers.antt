@@ -1,7 +1,6 @@
 -- `step` meets its contract: the warp moves on, or the room cannot be used. Assumes nothing.
 use mathlib.Core.Path.{sym, ◌∙◌}
 use Rattle.machine.proofs.Doors.{roomy, stepped, unstepped}
-use borrow.Author.Rules.{rules}
 use Rattle.machine.proofs.moves.step_warp.Goals as goal
 
 pub move_on-requires : goal.move_on-requires

@@ -1,6 +1,5 @@
 -- `acting_of` meets its contract: the expression is the one that the row names. Assumes nothing.
 use Rattle.machine.proofs.Obeying.{acted}
-use borrow.Author.Rules.{rules}
 use Rattle.machine.proofs.rules.acting_of.Goals as goal
 
 pub returns : goal.returns

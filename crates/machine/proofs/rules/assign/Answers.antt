@@ -3,7 +3,6 @@ use mathlib.Core.Path.{sym}
 use native.Mathlib.Omega.{arith}
 use lib.Seq.{set_out}
 use Rattle.machine.proofs.Held.{stored}
-use borrow.Author.Rules.{rules}
 use Rattle.machine.proofs.rules.assign.Goals as goal
 
 pub returns-then-x-cells : goal.returns-then-x-cells

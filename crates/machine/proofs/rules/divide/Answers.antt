@@ -1,6 +1,5 @@
 -- `part` meets its contract: what its parts put on the stack, put together. Assumes nothing.
 use Rattle.machine.proofs.Obeying.{by_parting}
-use borrow.Author.Rules.{rules}
 use Rattle.machine.proofs.rules.divide.Goals as goal
 
 pub returns : goal.returns

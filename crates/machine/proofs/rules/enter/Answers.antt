@@ -1,6 +1,5 @@
 -- `enter` meets its contract: the list lies over its call token. Assumes nothing.
 use Rattle.machine.proofs.Obeying.{by_entry}
-use borrow.Author.Rules.{rules}
 use Rattle.machine.proofs.rules.enter.Goals as goal
 
 pub returns : goal.returns

@@ -1,6 +1,5 @@
 -- `enter_loop` meets its contract: a loop that is entered is one that goes on, over its brk token. Assumes nothing.
 use Rattle.machine.proofs.Obeying.{by_looping}
-use borrow.Author.Rules.{rules}
 use Rattle.machine.proofs.rules.enter_loop.Goals as goal
 
 pub returns : goal.returns

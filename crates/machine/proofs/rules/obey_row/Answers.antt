@@ -1,6 +1,5 @@
 -- `obey_row` meets its contract, by the row's kind. Assumes nothing.
 use Rattle.machine.proofs.Obeying.{by_skip, by_assign, by_if, by_while, by_break, by_call, by_return}
-use borrow.Author.Rules.{rules}
 use Rattle.machine.proofs.rules.obey_row.Goals as goal
 
 pub returns-then-kind-eq-SKIP : goal.returns-then-kind-eq-SKIP

@@ -1,6 +1,5 @@
 -- `repeat` meets its contract: the body lies over the loop. Assumes nothing.
 use Rattle.machine.proofs.Obeying.{by_repeating}
-use borrow.Author.Rules.{rules}
 use Rattle.machine.proofs.rules.repeat.Goals as goal
 
 pub returns : goal.returns

@@ -1,8 +1,5 @@
-use mathlib.Core.Path.{◌≡◌, refl}
-use Prim.Native.Nat.{◌≤◌}
+use mathlib.Core.Path.{refl}
 use native.Mathlib.Omega.{arith}
-use borrow.Author.Rules.{rules}
-use Rattle.machine.specs.Entries.{stack_in, from_token}
 use Rattle.machine.proofs.Held.{drop_row, drop_token, drop_none}
 use Rattle.machine.proofs.stack.drop_rows.Goals as goal
 

@@ -1,10 +1,7 @@
 -- `drop_rows` meets its contract: what the loop has passed are statements. Assumes nothing.
-use mathlib.Core.Path.{◌≡◌, refl}
+use mathlib.Core.Path.{◌≡◌}
 use Prim.Native.Nat.{◌≤◌}
-use native.Mathlib.Omega.{arith}
-use borrow.Author.Rules.{rules}
 use Rattle.machine.specs.Entries.{stack_in, from_token}
-use Rattle.machine.proofs.Held.{drop_row, drop_token, drop_none}
 use Rattle.machine.proofs.stack.drop_rows.Given as goal
 
 abbrev pub invariant-loop-top : goal.invariant-loop-top

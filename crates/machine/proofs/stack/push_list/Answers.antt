@@ -1,11 +1,8 @@
 use mathlib.Core.Path.{refl}
 use native.Mathlib.Omega.{arith}
 use borrow.Author.Rules.{rules}
-use lib.ListN.{length}
 use Rattle.kernels.specs.Limits.{most_statements}
-use Rattle.kernels.specs.Rows.{statements}
-use Rattle.machine.specs.Entries.{stack_in}
-use Rattle.machine.proofs.Held.{Piled, piled_start, piled_hit, piled_miss, piled_end}
+use Rattle.machine.proofs.Held.{piled_start, piled_hit, piled_miss, piled_end}
 use Rattle.machine.proofs.stack.push_list.Goals as goal
 
 pub loop-i-init : goal.loop-i-init

@@ -1,12 +1,8 @@
 -- `push_list` meets its contract: the rows from i on that have the list are piled. Assumes nothing.
-use mathlib.Core.Path.{refl}
-use native.Mathlib.Omega.{arith}
-use borrow.Author.Rules.{rules}
 use lib.ListN.{length}
-use Rattle.kernels.specs.Limits.{most_statements}
 use Rattle.kernels.specs.Rows.{statements}
 use Rattle.machine.specs.Entries.{stack_in}
-use Rattle.machine.proofs.Held.{Piled, piled_start, piled_hit, piled_miss, piled_end}
+use Rattle.machine.proofs.Held.{Piled}
 use Rattle.machine.proofs.stack.push_list.Given as goal
 
 abbrev pub invariant-loop-i : goal.invariant-loop-i

@@ -1,6 +1,5 @@
 -- `push_named` meets its contract: the list is the one whose number stands there. Assumes nothing.
 use Rattle.machine.proofs.Obeying.{by_named}
-use borrow.Author.Rules.{rules}
 use Rattle.machine.proofs.stack.push_named.Goals as goal
 
 pub returns : goal.returns

@@ -1,7 +1,6 @@
 -- `put` meets its contract: one entry more. Assumes nothing.
 use mathlib.Core.Path.{refl}
 use native.Mathlib.Omega.{arith}
-use borrow.Author.Rules.{rules}
 use Rattle.machine.proofs.Held.{held_push}
 use Rattle.machine.proofs.stack.put.Goals as goal
 

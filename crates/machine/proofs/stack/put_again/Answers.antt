@@ -1,6 +1,5 @@
 -- `put_again` meets its contract: the number means a while that has begun. Assumes nothing.
 use native.Mathlib.Omega.{arith}
-use borrow.Author.Rules.{rules}
 use Rattle.machine.proofs.Held.{again_put}
 use Rattle.machine.proofs.stack.put_again.Goals as goal
 

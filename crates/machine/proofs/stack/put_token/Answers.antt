@@ -1,6 +1,5 @@
 -- `put_token` meets its contract: the number means that token. Assumes nothing.
 use native.Mathlib.Omega.{arith}
-use borrow.Author.Rules.{rules}
 use Rattle.machine.proofs.Held.{token_put}
 use Rattle.machine.proofs.stack.put_token.Goals as goal
 

@@ -1,5 +1,4 @@
 -- `acting_alone` meets its contract, by the value. Assumes nothing.
-use Rattle.std.proofs.Common.{rules}
 use Rattle.values.proofs.Lanewise.{one_on, one_off}
 use Rattle.values.proofs.acting.acting_alone.Goals as goal
 

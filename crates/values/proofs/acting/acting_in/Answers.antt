@@ -1,4 +1,4 @@
-use Rattle.std.proofs.Common.{◌≡◌, ◌-◌, ◌≤◌, ap, ◌∙◌, arith, rules}
+use Rattle.std.proofs.Common.{◌≡◌, ap, ◌∙◌, arith}
 use Rattle.values.specs.Expressions.{expression, acting}
 use Rattle.values.proofs.Lanewise.{acts_as, acting_none, acting_hit, acting_miss}
 use Rattle.values.proofs.acting.acting_in.Goals as goal

@@ -1,7 +1,6 @@
 -- `acting_in` meets its contract: the word has the lanes that the loop has passed. Assumes nothing.
-use Rattle.std.proofs.Common.{◌≡◌, ◌-◌, ◌≤◌, ap, ◌∙◌, arith, rules}
+use Rattle.std.proofs.Common.{◌≡◌, ◌-◌, ◌≤◌}
 use Rattle.values.specs.Expressions.{expression, acting}
-use Rattle.values.proofs.Lanewise.{acts_as, acting_none, acting_hit, acting_miss}
 use Rattle.values.proofs.acting.acting_in.Given as goal
 
 abbrev pub invariant-loop-t : goal.invariant-loop-t

@@ -1,5 +1,5 @@
 -- `acting_lanes` meets its contract: no lane, one, or several. Assumes nothing.
-use Rattle.std.proofs.Common.{◌∙◌, arith, rules}
+use Rattle.std.proofs.Common.{◌∙◌, arith}
 use Rattle.kernels.specs.Limits.{most_expressions}
 use Rattle.values.proofs.Lanewise.{acting_none, acting_limit, acting_stays, acting_alone}
 use Rattle.values.proofs.acting.acting_lanes.Goals as goal

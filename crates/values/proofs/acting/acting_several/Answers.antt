@@ -1,5 +1,5 @@
 -- `acting_several` meets its contract: the room that is taken serves. Assumes nothing.
-use Rattle.std.proofs.Common.{arith, rules}
+use Rattle.std.proofs.Common.{arith}
 use Rattle.kernels.specs.Limits.{most_expressions}
 use Rattle.values.proofs.Several.{new_room, most_needed}
 use Rattle.values.proofs.acting.acting_several.Goals as goal

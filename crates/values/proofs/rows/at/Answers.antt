@@ -1,5 +1,5 @@
 -- `at` meets its contract, by its test. Assumes nothing.
-use Rattle.std.proofs.Common.{sym, rules}
+use Rattle.std.proofs.Common.{sym}
 use lib.ListN.{get_or-eq_default}
 use Rattle.values.proofs.rows.at.Goals as goal
 

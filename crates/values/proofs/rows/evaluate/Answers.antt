@@ -1,5 +1,5 @@
-use Rattle.std.proofs.Common.{◌+◌, ◌-◌, ◌≤◌, length, arith, rules}
-use Rattle.values.proofs.Filling.{Filled, filled_none, filled_more, in_limit}
+use Rattle.std.proofs.Common.{arith}
+use Rattle.values.proofs.Filling.{filled_none, filled_more, in_limit}
 use Rattle.values.proofs.rows.evaluate.Goals as goal
 
 pub loop-i-init : goal.loop-i-init

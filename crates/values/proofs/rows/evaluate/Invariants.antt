@@ -1,6 +1,6 @@
 -- `evaluate` meets its contract: the room has the values of the rows that the loop has passed. Assumes nothing.
-use Rattle.std.proofs.Common.{◌+◌, ◌-◌, ◌≤◌, length, arith, rules}
-use Rattle.values.proofs.Filling.{Filled, filled_none, filled_more, in_limit}
+use Rattle.std.proofs.Common.{◌+◌, ◌-◌, ◌≤◌, length}
+use Rattle.values.proofs.Filling.{Filled}
 use Rattle.values.proofs.rows.evaluate.Given as goal
 
 abbrev pub invariant-loop-i : goal.invariant-loop-i

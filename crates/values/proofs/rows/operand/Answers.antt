@@ -1,5 +1,5 @@
 -- `operand` meets its contract: an earlier row's value, or 0. Assumes nothing.
-use Rattle.std.proofs.Common.{rules, le-ltb, lt-ltb}
+use Rattle.std.proofs.Common.{le-ltb, lt-ltb}
 use Rattle.values.proofs.rows.operand.Goals as goal
 
 pub returns-then-x-i : goal.returns-then-x-i

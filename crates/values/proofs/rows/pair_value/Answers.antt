@@ -1,5 +1,5 @@
 -- `pair_value` meets its contract, by the row's kind. Assumes nothing.
-use Rattle.std.proofs.Common.{sym, ◌∙◌, arith, rules, le-ltb, lt-ltb}
+use Rattle.std.proofs.Common.{sym, ◌∙◌, arith, le-ltb, lt-ltb}
 use Rattle.values.proofs.Filling.{is_sum, is_difference, is_less}
 use Rattle.values.proofs.rows.pair_value.Goals as goal
 

@@ -1,5 +1,5 @@
 -- `row_value` meets its contract: a row has operands or none. Assumes nothing.
-use Rattle.std.proofs.Common.{arith, rules}
+use Rattle.std.proofs.Common.{arith}
 use Rattle.kernels.specs.Limits.{most_expressions}
 use Rattle.values.proofs.Filling.{leaf_by, pair_by}
 use Rattle.values.proofs.rows.row_value.Goals as goal

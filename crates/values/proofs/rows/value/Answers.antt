@@ -1,5 +1,5 @@
 -- `value` meets its contract, within the limit and past it. Assumes nothing.
-use Rattle.std.proofs.Common.{arith, rules}
+use Rattle.std.proofs.Common.{arith}
 use Rattle.kernels.specs.Limits.{most_expressions}
 use Rattle.values.proofs.Filling.{past_limit}
 use Rattle.values.proofs.rows.value.Goals as goal

@@ -1,7 +1,6 @@
 -- `fill_leaf` meets its contract: the lanes that the loop has passed have their values. Assumes nothing.
-use Rattle.std.proofs.Common.{◌≡◌, ℕ, ◌-◌, ◌≤◌, length, refl, arith, rules}
+use Rattle.std.proofs.Common.{◌≡◌, ℕ, ◌-◌, ◌≤◌, length}
 use Rattle.values.specs.Needs.{StripDone}
-use Rattle.values.proofs.Several.{strip_none, strip_more, strip_all}
 use Rattle.values.proofs.wide.fill_leaf.Given as goal
 
 abbrev pub invariant-loop-k : goal.invariant-loop-k

@@ -1,5 +1,4 @@
-use Rattle.std.proofs.Common.{◌≡◌, ℕ, ◌-◌, ◌≤◌, length, refl, arith, rules}
-use Rattle.values.specs.Needs.{StripDone}
+use Rattle.std.proofs.Common.{refl, arith}
 use Rattle.values.proofs.Several.{strip_none, pair_more, strip_all}
 use Rattle.values.proofs.wide.fill_pair.Goals as goal
 

@@ -1,7 +1,6 @@
 -- `fill_pair` meets its contract: what the loop reads it has not yet written. Assumes nothing.
-use Rattle.std.proofs.Common.{◌≡◌, ℕ, ◌-◌, ◌≤◌, length, refl, arith, rules}
+use Rattle.std.proofs.Common.{◌≡◌, ℕ, ◌-◌, ◌≤◌, length}
 use Rattle.values.specs.Needs.{StripDone}
-use Rattle.values.proofs.Several.{strip_none, pair_more, strip_all}
 use Rattle.values.proofs.wide.fill_pair.Given as goal
 
 abbrev pub invariant-loop-k : goal.invariant-loop-k

@@ -1,5 +1,5 @@
 -- `fill_row` meets its contract: a row has operands or none. Assumes nothing.
-use Rattle.std.proofs.Common.{arith, rules}
+use Rattle.std.proofs.Common.{arith}
 use Rattle.kernels.specs.Limits.{most_expressions}
 use Rattle.values.proofs.Several.{strips, leaf_row, pair_row}
 use Rattle.values.proofs.wide.fill_row.Goals as goal

@@ -1,6 +1,6 @@
-use Rattle.std.proofs.Common.{◌≡◌, ◌+◌, ◌-◌, ◌≤◌, length, refl, ◌∙◌, arith, rules}
+use Rattle.std.proofs.Common.{refl, ◌∙◌, arith}
 use Rattle.kernels.specs.Limits.{most_expressions}
-use Rattle.values.proofs.Several.{can_fill, Laid, laid_none, laid_more, laid_all}
+use Rattle.values.proofs.Several.{can_fill, laid_none, laid_more, laid_all}
 use Rattle.values.proofs.wide.fill_rows.Goals as goal
 
 pub loop-i-init : goal.loop-i-init

@@ -1,7 +1,6 @@
 -- `fill_rows` meets its contract: the rows that the loop has passed have their values. Assumes nothing.
-use Rattle.std.proofs.Common.{◌≡◌, ◌+◌, ◌-◌, ◌≤◌, length, refl, ◌∙◌, arith, rules}
-use Rattle.kernels.specs.Limits.{most_expressions}
-use Rattle.values.proofs.Several.{can_fill, Laid, laid_none, laid_more, laid_all}
+use Rattle.std.proofs.Common.{◌≡◌, ◌+◌, ◌-◌, ◌≤◌, length}
+use Rattle.values.proofs.Several.{Laid}
 use Rattle.values.proofs.wide.fill_rows.Given as goal
 
 abbrev pub invariant-loop-i : goal.invariant-loop-i

@@ -1,5 +1,5 @@
 -- `strip` meets its contract: the values of an earlier row lie before those of row i. Assumes nothing.
-use Rattle.std.proofs.Common.{arith, rules, le-ltb, lt-ltb}
+use Rattle.std.proofs.Common.{arith, le-ltb, lt-ltb}
 use Rattle.values.proofs.Several.{strip_before}
 use Rattle.values.proofs.wide.strip.Goals as goal
 
