@@ -4,35 +4,20 @@ use mathlib.Core.List.{List}
 use Prim.Native.Nat.{ℕ, ◌-◌}
 use native.Mathlib.Omega.{arith}
 use lib.ListN.{length, take, drop}
-use borrow.Author.Rules.{rules}
 use Rattle.grammar.proofs.Pieces.{slice_from}
 use Rattle.reader.specs.Places.{place_in, rest_in, ahead}
-use Rattle.reader.proofs.tail.Statement.{statement}
-use Rattle.reader.proofs.tail.Tie as tie
+use Rattle.reader.proofs.tail.Goals as goal
 
 -- the part of a slice from b on, where b is the place that is meant
 part_is : (l : List ℕ) (x : ℕ × ℕ) (b at : ℕ) → b ≡ place_in l at → (take (length l - b) (drop b l) ≡ rest_in l at) × (ahead x b ≡ ahead x (place_in l at))
 part_is l x b at e = (slice_from l b ∙ ap (λ (n : ℕ). drop n l) e, ap (ahead x) e)
 
-returns : tie.Need-returns
+pub returns-then-at-end : goal.returns-then-at-end
+returns-then-at-end c =
+    let a = c.args in
+    part_is a.text.now a.text.ref_ptr _ a.at (omega (arith, c.if-at-end.true))
+
+pub returns : goal.returns
 returns c =
-    let a = c.before.before.args in
-    part_is a.text.now a.text.ref_ptr _ a.at (omega (arith, c.before.if1.true))
-
-returns-2 : tie.Need-returns-2
-returns-2 c =
-    let a = c.before.before.args in
-    part_is a.text.now a.text.ref_ptr _ a.at (omega (arith, c.before.if1.false))
-
-pub tail-spec : {M : Type 1} → statement M
-tail-spec =
-    tie.close
-    (tie.spec
-    (λ c. search rules)
-    (λ c. search rules)
-    (λ c. search rules)
-    returns
-    (λ c. search rules)
-    (λ c. search rules)
-    (λ c. search rules)
-    returns-2)
+    let a = c.args in
+    part_is a.text.now a.text.ref_ptr _ a.at (omega (arith, c.if-at-end.false))
