@@ -2,12 +2,8 @@
 use mathlib.Core.Path.{refl}
 use Rattle.tables.specs.Limits.{most_rows, most_threads}
 use Rattle.notation.specs.Reading.{is_too_many}
-use Rattle.notation.proofs.reading.too_many.Statement.{statement}
-use Rattle.notation.proofs.reading.too_many.Tie as tie
+use Rattle.notation.proofs.reading.too_many.Goals as goal
 
-returns : tie.Need-returns
+pub returns : goal.returns
 unfolding is_too_many most_rows most_threads
 returns c = refl
-
-pub too-many-spec : {M : Type 1} → statement M
-too-many-spec = tie.close (tie.spec returns)
