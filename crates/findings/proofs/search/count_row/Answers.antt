@@ -12,6 +12,7 @@ use Rattle.findings.proofs.Searching.{one_counted}
 use Rattle.findings.proofs.Listing.{below, below_few, OnList, walk_begun, walk_on}
 use borrow.Author.Rules.{rules}
 use Rattle.findings.proofs.search.count_row.Goals as goal
+use Rattle.findings.proofs.search.count_row.Goals.{then-fault_at, else-fault_at}
 
 pub loop-j-init : goal.loop-j-init
 loop-j-init c =
@@ -39,9 +40,10 @@ loop-j-preserved c =
     let l = c.loop-j in
     let W = walk_on a.heads.now a.commands.now a.generations.now a.relation.now a.fault a.i c.requires.lists l.j c.loop-j-test.true l.invariant.1 in
     let e = sym c.fault_at.ensures in (
-      ⊎_elim (λ w. w.1 ∙ one_counted (below a.heads.now a.commands.now a.generations.now a.relation.now a.fault a.i l.j) _ (pair_of a.fault a.i l.j) l.invariant.0 (W.more (e ∙ w.0.taken)))
-          (λ w. w.1 ∙ l.invariant.0 ∙ ap (λ (ps : List Pair). length ps) (sym (W.same (e ∙ w.0.left))))
-          c.if-fault_at.branch,
+      elim c.if-fault_at.branch [
+          then-fault_at w ↦ w.count-is ∙ one_counted (below a.heads.now a.commands.now a.generations.now a.relation.now a.fault a.i l.j) _ (pair_of a.fault a.i l.j) l.invariant.0 (W.more (e ∙ w.if-fault_at.true))
+        | else-fault_at w ↦ w.count-is ∙ l.invariant.0 ∙ ap (λ (ps : List Pair). length ps) (sym (W.same (e ∙ w.if-fault_at.false)))
+      ],
       W.on,
     )
 

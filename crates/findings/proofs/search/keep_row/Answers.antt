@@ -12,6 +12,7 @@ use Rattle.findings.proofs.Searching.{none_added, one_added}
 use Rattle.findings.proofs.Listing.{below, OnList, walk_begun, walk_on, total_low}
 use borrow.Author.Rules.{rules}
 use Rattle.findings.proofs.search.keep_row.Goals as goal
+use Rattle.findings.proofs.search.keep_row.Goals.{then-fault_at+then-found-lt-KEPT, then-fault_at+else-found-lt-KEPT, else-fault_at}
 
 pub loop-j-init : goal.loop-j-init
 loop-j-init c =
@@ -43,12 +44,12 @@ loop-j-preserved c =
     let p = pair_of a.fault a.i l.j in
     let e = sym c.fault_at.ensures in
     let few = total_low a.heads.now a.commands.now a.generations.now a.relation.now a.fault a.i a.sheet l.found l.j l.invariant.0 in (
-      ⊎_elim (λ w. w.5 ∙ w.4.ensures ∙ ap (added l.found) w.3.ensures ∙ one_added (below a.heads.now a.commands.now a.generations.now a.relation.now a.fault a.i l.j) _ p a.sheet l.invariant.0 (W.more (e ∙ w.0.taken)))
-          (⊎_elim
-          (λ w. w.4 ∙ added_full l.found p w.2.left (omega (arith, few, c.requires.0, h, c.requires.1.lists.few))
-          ∙ one_added (below a.heads.now a.commands.now a.generations.now a.relation.now a.fault a.i l.j) _ p a.sheet l.invariant.0 (W.more (e ∙ w.0.taken)))
-          (λ w. w.1 ∙ l.invariant.0 ∙ ap (add_all a.sheet) (sym (W.same (e ∙ w.0.left)))))
-          c.if-fault_at.branch,
+      elim c.if-fault_at.branch [
+          then-fault_at+then-found-lt-KEPT w ↦ w.found-is ∙ w.with_pair-found.ensures ∙ ap (added l.found) w.pair_of.ensures ∙ one_added (below a.heads.now a.commands.now a.generations.now a.relation.now a.fault a.i l.j) _ p a.sheet l.invariant.0 (W.more (e ∙ w.if-fault_at.true))
+        | then-fault_at+else-found-lt-KEPT w ↦ w.found-is ∙ added_full l.found p w.if-found-lt-KEPT.false (omega (arith, few, c.requires.0, h, c.requires.1.lists.few))
+          ∙ one_added (below a.heads.now a.commands.now a.generations.now a.relation.now a.fault a.i l.j) _ p a.sheet l.invariant.0 (W.more (e ∙ w.if-fault_at.true))
+        | else-fault_at w ↦ w.found-is ∙ l.invariant.0 ∙ ap (add_all a.sheet) (sym (W.same (e ∙ w.if-fault_at.false)))
+      ],
       W.on,
     )
 

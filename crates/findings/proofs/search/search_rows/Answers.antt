@@ -10,6 +10,7 @@ use Rattle.findings.specs.Needs.{is_fault_at}
 use Rattle.findings.proofs.Searching.{all_begun, total_few, row_empty, row_kept, row_counted}
 use borrow.Author.Rules.{rules}
 use Rattle.findings.proofs.search.search_rows.Goals as goal
+use Rattle.findings.proofs.search.search_rows.Goals.{then-n-ne0+then-found-lt-KEPT, then-n-ne0+else-found-lt-KEPT, else-n-ne0}
 
 pub loop-i-init : goal.loop-i-init
 loop-i-init c =
@@ -43,10 +44,11 @@ loop-i-preserved c =
     let low = c.loop-i-test.true in
     let few = c.requires.1.few in (
       search rules,
-      ⊎_elim (λ w. w.4 ∙ row_kept (is_fault_at a.heads.now a.commands.now a.generations.now a.relation.now a.fault) (pair_of a.fault) (rows a.commands.now) l.found w.3.result l.i n.result few low l.invariant.1 n.ensures w.3.ensures)
-          (⊎_elim (λ w. w.4 ∙ row_counted (is_fault_at a.heads.now a.commands.now a.generations.now a.relation.now a.fault) (pair_of a.fault) (rows a.commands.now) l.found l.found l.i n.result few low l.invariant.1 n.ensures w.2.left)
-          (λ w. w.1 ∙ row_empty (is_fault_at a.heads.now a.commands.now a.generations.now a.relation.now a.fault) (pair_of a.fault) (rows a.commands.now) l.found l.found l.i n.result few low l.invariant.1 n.ensures w.0.left))
-          c.if-n-ne0.branch,
+      elim c.if-n-ne0.branch [
+          then-n-ne0+then-found-lt-KEPT w ↦ w.found-is ∙ row_kept (is_fault_at a.heads.now a.commands.now a.generations.now a.relation.now a.fault) (pair_of a.fault) (rows a.commands.now) l.found w.keep_row-found.result l.i n.result few low l.invariant.1 n.ensures w.keep_row-found.ensures
+        | then-n-ne0+else-found-lt-KEPT w ↦ w.found-is ∙ row_counted (is_fault_at a.heads.now a.commands.now a.generations.now a.relation.now a.fault) (pair_of a.fault) (rows a.commands.now) l.found l.found l.i n.result few low l.invariant.1 n.ensures w.if-found-lt-KEPT.false
+        | else-n-ne0 w ↦ w.found-is ∙ row_empty (is_fault_at a.heads.now a.commands.now a.generations.now a.relation.now a.fault) (pair_of a.fault) (rows a.commands.now) l.found l.found l.i n.result few low l.invariant.1 n.ensures w.if-n-ne0.false
+      ],
     )
 
 pub returns : goal.returns

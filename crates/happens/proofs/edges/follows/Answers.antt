@@ -5,7 +5,7 @@ use Rattle.tables.specs.Limits.{most_rows}
 use Rattle.happens.proofs.edges.follows.Goals as goal
 
 pub returns-then-next-m : goal.returns-then-next-m
-returns-then-next-m c = simp (lt-ltb _ _ c.if-next-m.true, c.is_first_in_thread.ensures)
+returns-then-next-m c = simp (lt-ltb _ _ c.if-next-m.true, c.is_first.ensures)
 
 pub returns : goal.returns
 returns c = simp (le-ltb _ _ c.if-next-m.false)

@@ -32,8 +32,6 @@ slice_bounds-put_reach-end c =
     let k = c.put_pairs-end in
     sym (length-take-le (k.result * 2) _ (omega (arith, k.ensures.few, k.ensures.len, c.requires.few_rows)))
 
-pub slice_bounds-put_reach-end-2 : goal.slice_bounds-put_reach-end-2
-slice_bounds-put_reach-end-2 c = sym c.put_pairs-end.auto.generations.1.1.1.1.0
 
 pub returns : goal.returns
 unfolding most_rows

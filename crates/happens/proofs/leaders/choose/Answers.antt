@@ -10,6 +10,7 @@ use Rattle.happens.specs.Needs.{seats, Seated}
 use Rattle.happens.proofs.Leading.{seated_more, seated_on}
 use borrow.Author.Rules.{rules}
 use Rattle.happens.proofs.leaders.choose.Goals as goal
+use Rattle.happens.proofs.leaders.choose.Goals.{then-commands-c-eq-SYNC, else-commands-c-eq-SYNC}
 
 pub loop-c-init : goal.loop-c-init
 loop-c-init c = (search rules, search rules, λ x l s. absurd (omega arith))
@@ -19,11 +20,11 @@ unfolding most_rows barriers
 loop-c-preserved c =
     let l = c.loop-c in (
       search rules,
-      ⊎_elim (λ w. rw w.2 (simp length-set l.invariant.1)) (λ w. rw w.1 l.invariant.1) c.if-commands-c-eq-SYNC.branch,
-      ⊎_elim
-          (λ w. rw (w.2, w.1.ensures.0) (seated_more c.args.commands.now c.args.generations.now l.leaders l.c c.loop-c-test.true (omega arith) l.invariant.2))
-          (λ w. rw w.1 (seated_on c.args.commands.now c.args.generations.now l.leaders l.c (ne_eqb _ _ w.0.left) l.invariant.2))
-          c.if-commands-c-eq-SYNC.branch,
+      omega (arith, c.if-commands-c-eq-SYNC.auto.leaders, l.invariant.1),
+      elim c.if-commands-c-eq-SYNC.branch [
+          then-commands-c-eq-SYNC w ↦ rw (w.leaders-is, w.seat-at.ensures.0) (seated_more c.args.commands.now c.args.generations.now l.leaders l.c c.loop-c-test.true (omega arith) l.invariant.2)
+        | else-commands-c-eq-SYNC w ↦ rw w.leaders-is (seated_on c.args.commands.now c.args.generations.now l.leaders l.c (ne_eqb _ _ w.if-commands-c-eq-SYNC.false) l.invariant.2)
+      ],
     )
 
 pub shape_of-leaders : goal.shape_of-leaders

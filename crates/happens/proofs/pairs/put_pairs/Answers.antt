@@ -32,8 +32,8 @@ loop-c-preserved c =
     let a = c.args in
     let p = c.put_part-p in (
       search rules,
-      omega (arith, p.ensures, p.auto.0),
-      omega (arith, p.auto.0, l.invariant.2),
+      omega (arith, p.ensures, p.auto.parts),
+      omega (arith, p.auto.parts, l.invariant.2),
       adds_map (omega arith) (below_more a.commands.now a.generations.now a.heads.now a.leaders.now l.c)
           (more_below a.commands.now a.generations.now a.heads.now a.leaders.now l.c)
           (adds_join l.invariant.3 c.put_command-n.ensures),

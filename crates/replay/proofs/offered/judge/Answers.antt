@@ -2,7 +2,7 @@
 use mathlib.Core.Path.{ap, ◌∙◌}
 use borrow.Author.Rules.{rules}
 use Rattle.steps.specs.Going.{go_on, played}
-use Rattle.replay.proofs.Judged.{judges_replayed}
+use Rattle.replay.proofs.Told.{judges_replayed}
 use Rattle.replay.proofs.offered.judge.Goals as goal
 
 pub returns : goal.returns

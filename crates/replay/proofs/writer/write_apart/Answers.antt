@@ -3,7 +3,7 @@ use mathlib.Core.Path.{refl}
 use native.Mathlib.Omega.{arith}
 use borrow.Author.Rules.{rules}
 use Rattle.tables.specs.Limits.{most_rows}
-use Rattle.replay.proofs.Written.{wrote_apart}
+use Rattle.replay.proofs.Wrote.{wrote_apart}
 use Rattle.replay.proofs.writer.write_apart.Goals as goal
 
 pub put_apart-requires : goal.put_apart-requires

@@ -7,7 +7,7 @@ use Rattle.verdicts.proofs.FirstTold.{number_is, said_zero}
 use Rattle.rules.proofs.Checked.{passed}
 use Rattle.replay.proofs.Refusals.{unwritten_tables, unwritten_room, writer_fits}
 use Rattle.replay.proofs.Writing.{first_complete}
-use Rattle.replay.proofs.Written.{wrote_first}
+use Rattle.replay.proofs.Wrote.{wrote_first}
 use Rattle.replay.proofs.writer.write_first.Goals as goal
 
 pub returns-then-told-ne0 : goal.returns-then-told-ne0
