@@ -11,7 +11,7 @@ use Rattle.schedules.specs.HappensBefore.{Goes, stays, more}
 use Rattle.schedules.proofs.Logs.{LegalLog}
 use Rattle.schedules.proofs.Step.{ran_other, ran_kept, gen_other}
 
-pub first_more : {τ υ : List ℕ} (c : ℕ) → Goes (c ∷ τ) υ → Goes τ υ
+pub first_more : (c : ℕ) {τ υ : List ℕ} → Goes (c ∷ τ) υ → Goes τ υ
 first_more c stays = more c stays
 first_more c (more d r) = more d (first_more c r)
 

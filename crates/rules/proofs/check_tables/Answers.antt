@@ -1,0 +1,52 @@
+-- `check_tables` meets its contract: what its tests find are the facts that each refusal asks for, in their order. Assumes nothing.
+use mathlib.Core.Path.{◌≡◌, sym, ap, ◌∙◌}
+use mathlib.Core.Logic.{inl, inr}
+use mathlib.Core.List.{List}
+use Prim.Native.Nat.{ℕ, min, ◌≤◌}
+use native.Mathlib.Omega.{arith}
+use lib.ListN.{length}
+use borrow.Author.Rules.{rules}
+use Rattle.tables.specs.Limits.{most_threads}
+use Rattle.tables.specs.Rows.{total, first_row}
+use Rattle.verdicts.specs.Verdicts.{tell}
+use Rattle.tables.proofs.Rows.{first_all}
+use Rattle.rules.proofs.Rules.{refuses_commands, refuses_threads, refuses_sum, refuses_row, refuses_none}
+use Rattle.rules.proofs.check_tables.Goals as goal
+
+-- where there are few threads, where the last ends is the sum of all
+added : (lengths : List ℕ) {r : ℕ} → length lengths ≤ most_threads → r ≡ first_row lengths (min (length lengths) most_threads) → r ≡ total lengths
+added lengths few q = q ∙ first_all lengths _ (omega arith)
+
+pub returns-then-bad_commands : goal.returns-then-bad_commands
+returns-then-bad_commands c = sym (refuses_commands _ _ (sym c.bad_commands.ensures ∙ c.if-bad_commands.true))
+
+pub returns-then-threads-eq0 : goal.returns-then-threads-eq0
+returns-then-threads-eq0 c =
+    sym (refuses_threads _ _ (sym c.bad_commands.ensures ∙ c.if-bad_commands.false) (inl (omega arith)))
+
+pub returns-then-threads-gt-THREADS : goal.returns-then-threads-gt-THREADS
+unfolding most_threads
+returns-then-threads-gt-THREADS c =
+    sym (refuses_threads _ _ (sym c.bad_commands.ensures ∙ c.if-bad_commands.false) (inr (omega arith)))
+
+pub returns-then-first_row-m : goal.returns-then-first_row-m
+unfolding most_threads
+returns-then-first_row-m c =
+    let a = c.args in
+    let sum = added a.lengths.now (omega arith) c.first_row.ensures in
+    sym (refuses_sum _ _ (sym c.bad_commands.ensures ∙ c.if-bad_commands.false) (λ e. c.if-first_row-m.true (sum ∙ e)))
+
+pub returns-then-bad-m : goal.returns-then-bad-m
+unfolding most_threads
+returns-then-bad-m c =
+    let a = c.args in
+    let sum = sym (added a.lengths.now (omega arith) c.first_row.ensures) ∙ c.if-first_row-m.false in
+    ap (λ (c : ℕ). tell 3 c 0) c.first_bad-bad.ensures
+    ∙ sym (refuses_row a.commands.now a.lengths.now (sym c.bad_commands.ensures ∙ c.if-bad_commands.false) (omega arith) (omega arith) sum (omega arith))
+
+pub returns : goal.returns
+unfolding most_threads
+returns c =
+    let a = c.args in
+    let sum = sym (added a.lengths.now (omega arith) c.first_row.ensures) ∙ c.if-first_row-m.false in
+    sym (refuses_none a.commands.now a.lengths.now (sym c.bad_commands.ensures ∙ c.if-bad_commands.false) (omega arith) (omega arith) sum (omega arith))

@@ -1,0 +1,16 @@
+-- Two sweeps that change something make words grow; one that changes nothing has taken every edge. Assumes nothing.
+use native.Mathlib.Omega.{arith}
+use borrow.Author.Tests.{not-true, not-false}
+use Rattle.relation.proofs.Truth.{left}
+use Rattle.sweeps.specs.Pairs.{PairIn}
+use Rattle.sweeps.specs.Needs.{Joined, none}
+use Rattle.sweeps.proofs.Passes.{joined_join, joined_length, still_fits, pass_join, left_to_grow, grows}
+use Rattle.sweeps.proofs.Sweeping.{settled}
+use borrow.Author.Rules.{rules}
+use Rattle.sweeps.proofs.sweeps.settle.Given as goal
+
+abbrev pub invariant-loop-m : goal.invariant-loop-m
+invariant-loop-m l = Joined (PairIn l.pairs l.m) l.m l.initial.room l.room
+
+abbrev pub decreases-loop-m : goal.decreases-loop-m
+decreases-loop-m l = left_to_grow l.room

@@ -1,0 +1,8 @@
+-- `Ready::look` meets its contract: each set is put as its test says. Assumes nothing.
+use borrow.Author.Rules.{rules}
+use Rattle.turns.specs.Ready.{looked}
+use Rattle.turns.proofs.ready.Ready.look.Goals as goal
+
+pub returns : goal.returns
+unfolding looked
+returns c = rw (← c.has_left-left.ensures, ← c.goes_first.ensures, ← c.put.ensures, ← c.put-2.ensures)

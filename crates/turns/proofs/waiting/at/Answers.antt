@@ -1,0 +1,8 @@
+-- `at` meets its contract, by its test. Assumes nothing.
+use mathlib.Core.Path.{sym}
+use lib.ListN.{get_or-eq_default}
+use borrow.Author.Rules.{rules}
+use Rattle.turns.proofs.waiting.at.Goals as goal
+
+pub returns : goal.returns
+returns c = sym (get_or-eq_default c.args.numbers.now 0 c.if-i-numbers.false)
