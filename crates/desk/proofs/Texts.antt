@@ -1,5 +1,5 @@
 -- A text read into full tables, and what is concluded from it. Assumes nothing.
-use mathlib.Core.Path.{◌≡◌, sym, ap, ◌∙◌, subst}
+use mathlib.Core.Path.{refl, ◌≡◌, sym, ap, ◌∙◌, subst}
 use mathlib.Core.Logic.{◌≢◌}
 use mathlib.Core.List.{List, [], ◌∷◌}
 use Prim.Native.Nat.{ℕ, ◌*◌, ◌≤◌}
@@ -7,8 +7,6 @@ use native.Mathlib.Omega.{arith}
 use lib.ListN.{length, take, drop, length-append, length-map}
 use lib.Seq.{take_at}
 use borrow.Author.Tests.{eq-eqb, ne_eqb}
-use types.Run.{OneOf, miss}
-use denote.Enum.Declared
 use Rattle.tables.specs.Limits.{most_rows, most_threads}
 use Rattle.verdicts.specs.declared.Told.{Told}
 use Rattle.spelling.specs.Machine.{flat, Outcome}
@@ -26,17 +24,17 @@ use Rattle.report.specs.declared.Conclusion.{Conclusion}
 use Rattle.desk.specs.Conclusion.{of_tables, read_as, of_text, bare}
 use Rattle.desk.specs.Needs.{FilledRooms, JudgesTables, Concludes}
 
-not_accepted : (r : Reading) → OneOf (0 ∷ 1 ∷ []) (Declared.tag_of R.the_type r) → (answered r).told.number ≢ 0
+not_accepted : (r : Reading) → ((m t : ℕ) → r ≡ Accepted m t → ⊥) → (answered r).told.number ≢ 0
 not_accepted (Unfit p) h = λ e. omega arith
 not_accepted Over h = λ e. omega arith
-not_accepted (Accepted m t) h = absurd (miss (0 ∷ 1 ∷ []) 2 tt h)
+not_accepted (Accepted m t) h = absurd (h m t refl)
 
 module _ {text commands lengths commands' lengths' : List ℕ} {r : Reading} (reads : Read text commands lengths commands' lengths' r)
     (wide : length commands ≡ most_rows * 3) (high : length lengths ≡ most_threads) where
   told_as : (answered r).told ≡ read_as text
   told_as = ap (λ (a : Answer). a.told) reads.answers ∙ rw (wide, high)
 
-  pub refused_text : OneOf (0 ∷ 1 ∷ []) (Declared.tag_of R.the_type r) → {t : Told} → t ≡ (answered r).told → {s : Sheet} → s ≡ sheet_of []
+  pub refused_text : ((m t : ℕ) → r ≡ Accepted m t → ⊥) → {t : Told} → t ≡ (answered r).told → {s : Sheet} → s ≡ sheet_of []
       → {relation generations : List ℕ}
       → Concludes text relation generations (record { conclusion = record { told = t; sheet = s }; numbers = 0; threads = 0 }) commands' lengths' relation generations
   unfolding of_text

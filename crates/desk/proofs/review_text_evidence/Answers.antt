@@ -19,17 +19,17 @@ pub slice_bounds-commands-end : goal.slice_bounds-commands-end
 slice_bounds-commands-end c = c.conclude-concluded.ensures.numbers_fit
 
 pub slice_bounds-put_exhibits-end : goal.slice_bounds-put_exhibits-end
-slice_bounds-put_exhibits-end c = let r = c.conclude-concluded in sym (length-take-le _ r.new.1.0 r.ensures.numbers_fit)
+slice_bounds-put_exhibits-end c = let r = c.conclude-concluded in sym (length-take-le _ r.new.commands r.ensures.numbers_fit)
 
 pub slice_bounds-lengths-end : goal.slice_bounds-lengths-end
 slice_bounds-lengths-end c = c.conclude-concluded.ensures.threads_fit
 
 pub slice_bounds-put_exhibits-end-2 : goal.slice_bounds-put_exhibits-end-2
-slice_bounds-put_exhibits-end-2 c = let r = c.conclude-concluded in sym (length-take-le _ r.new.1.1.0 r.ensures.threads_fit)
+slice_bounds-put_exhibits-end-2 c = let r = c.conclude-concluded in sym (length-take-le _ r.new.lengths r.ensures.threads_fit)
 
 pub returns : goal.returns
 unfolding least_evidence
 returns c =
     let r = c.conclude-concluded in
-    evidenced_text r.ensures full_words (r.auto.1.1.1.0 ∙ full_words) (r.auto.1.1.1.1.0 ∙ full_rows) (omega (arith, c.if-report-lt-EVIDENCE_BYTES.false))
+    evidenced_text r.ensures full_words (r.auto.relation ∙ full_words) (r.auto.generations ∙ full_rows) (omega (arith, c.if-report-lt-EVIDENCE_BYTES.false))
     c.print-at.ensures c.put_exhibits.ensures

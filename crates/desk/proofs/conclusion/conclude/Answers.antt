@@ -10,7 +10,7 @@ use Rattle.desk.proofs.conclusion.conclude.Goals as goal
 pub returns-in_default : goal.returns-in_default
 returns-in_default c =
     let p = c.requires.0 in
-    refused_text c.read-reading.ensures p.numbers p.threads c.in_default.keys2 c.told.ensures c.empty.ensures
+    refused_text c.read-reading.ensures p.numbers p.threads c.in_default.not-Accepted c.told.ensures c.empty.ensures
 
 pub overflow_mul-numbers : goal.overflow_mul-numbers
 unfolding most_rows
@@ -25,7 +25,7 @@ pub slice_bounds-judge_tables-end-2 : goal.slice_bounds-judge_tables-end-2
 slice_bounds-judge_tables-end-2 c =
     let p = c.requires.0 in
     let r = c.read-reading in
-    sym (length-take-le _ r.new.1.0 (numbers_fit r.ensures p.numbers p.threads c.in-Accepted.is))
+    sym (length-take-le _ r.new.commands (numbers_fit r.ensures p.numbers p.threads c.in-Accepted.is))
 
 pub slice_bounds-judge_tables-end-3 : goal.slice_bounds-judge_tables-end-3
 slice_bounds-judge_tables-end-3 c = let p = c.requires.0 in threads_fit c.read-reading.ensures p.numbers p.threads c.in-Accepted.is
@@ -34,7 +34,7 @@ pub slice_bounds-judge_tables-end-4 : goal.slice_bounds-judge_tables-end-4
 slice_bounds-judge_tables-end-4 c =
     let p = c.requires.0 in
     let r = c.read-reading in
-    sym (length-take-le _ r.new.1.1.0 (threads_fit r.ensures p.numbers p.threads c.in-Accepted.is))
+    sym (length-take-le _ r.new.lengths (threads_fit r.ensures p.numbers p.threads c.in-Accepted.is))
 
 pub returns : goal.returns
 returns c =

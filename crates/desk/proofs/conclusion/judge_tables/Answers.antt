@@ -7,12 +7,12 @@ use Rattle.desk.proofs.Tabled.{full_rows, steps_fit, steps_are, judged_tables}
 use Rattle.desk.proofs.conclusion.judge_tables.Goals as goal
 
 pub slice_bounds-schedule-end : goal.slice_bounds-schedule-end
-slice_bounds-schedule-end c = let w = c.write_schedule-written in steps_fit w.ensures full_rows w.auto.1.1.0
+slice_bounds-schedule-end c = let w = c.write_schedule-written in steps_fit w.ensures full_rows w.auto.room
 
 pub slice_bounds-review-end : goal.slice_bounds-review-end
 slice_bounds-review-end c =
     let w = c.write_schedule-written in
-    sym (length-take-le _ w.new.1.1.0 (omega (arith, steps_fit w.ensures full_rows w.auto.1.1.0, w.auto.1.1.0)))
+    sym (length-take-le _ w.new.room (omega (arith, steps_fit w.ensures full_rows w.auto.room, w.auto.room)))
 
 pub returns : goal.returns
 returns c =
