@@ -7,8 +7,7 @@ use Rattle.relation.specs.Chains.{Chain}
 use Rattle.relation.specs.Table.{Related, Writes}
 use Rattle.probe.specs.Promise.{ProbesClose}
 use borrow.Author.Rules.{rules}
-use Rattle.probe.proofs.probe_close.Statement.{statement}
-use Rattle.probe.proofs.probe_close.Tie as tie
+use Rattle.probe.proofs.probe_close.Goals as goal
 
 closed : (relation relation' : List ℕ) (m : ℕ) (said test : Bool) → Writes (Chain (Related relation m)) relation relation' m said → said ≡ test
     → ProbesClose relation m relation' (cond test 1 0)
@@ -18,18 +17,8 @@ closed relation relation' m said test W e =
       closed = subst (Writes (Chain (Related relation m)) relation relation' m) W.answer W;
     }
 
-returns : tie.Need-returns
-returns c = closed _ _ _ _ _ c.before.before.before.close.ensures c.if1.true
+pub returns-then-close : goal.returns-then-close
+returns-then-close c = closed _ _ _ _ _ c.close.ensures c.if-close.true
 
-returns-2 : tie.Need-returns-2
-returns-2 c = closed _ _ _ _ _ c.before.before.before.close.ensures c.if1.false
-
-pub probe-close-spec : {M : Type 1} → statement M
-probe-close-spec =
-    tie.close
-    (tie.spec
-    (λ c κs. search rules)
-    (λ c. search rules)
-    returns
-    (λ c. search rules)
-    returns-2)
+pub returns : goal.returns
+returns c = closed _ _ _ _ _ c.close.ensures c.if-close.false

@@ -1,0 +1,22 @@
+-- `judge_tables` meets its contract. Assumes nothing.
+use mathlib.Core.Path.{sym}
+use native.Mathlib.Omega.{arith}
+use lib.Seq.{length-take-le}
+use borrow.Author.Rules.{rules}
+use Rattle.desk.proofs.Tabled.{full_rows, steps_fit, steps_are, judged_tables}
+use Rattle.desk.proofs.conclusion.judge_tables.Goals as goal
+
+pub slice_bounds-schedule-end : goal.slice_bounds-schedule-end
+slice_bounds-schedule-end c = let w = c.write_schedule-written in steps_fit w.ensures full_rows w.auto.1.1.0
+
+pub slice_bounds-review-end : goal.slice_bounds-review-end
+slice_bounds-review-end c =
+    let w = c.write_schedule-written in
+    sym (length-take-le _ w.new.1.1.0 (omega (arith, steps_fit w.ensures full_rows w.auto.1.1.0, w.auto.1.1.0)))
+
+pub returns : goal.returns
+returns c =
+    let f = c.review-found in
+    let w = c.write_schedule-written in
+    let p = c.requires in
+    judged_tables f.ensures p.wide p.high c.told.ensures (λ e. steps_are w.ensures full_rows e)
