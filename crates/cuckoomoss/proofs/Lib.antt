@@ -1,2 +1,1 @@
-pub mod Brought
 pub mod Printing
