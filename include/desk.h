@@ -1,7 +1,7 @@
 /*
  * The text review of Cuckoomoss: a text in, a report out.
  *
- * Link with target/staticlib/libdesk.a, which `rt staticlib desk` makes, for x86-64 Linux. It asks of the C library
+ * Link with target/staticlib/libdesk.a, which tests/archives makes of crates/desk_c, for x86-64 Linux. It asks of the C library
  * memcpy, memmove and memset, and nothing else.
  */
 #ifndef CUCKOOMOSS_DESK_H

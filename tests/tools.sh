@@ -36,59 +36,69 @@ install_packages() {
   apt-get install -q -y --no-install-recommends "${missing[@]}"
 }
 
-# temporary_in_memory: for each crate and each edit the prover copies what that stands on, up to 230 MB, into a temporary folder; in memory that takes an eighth of the time. So TMPDIR becomes a new
-# folder there, which the caller removes (in_memory), where memory is to spare and programs can be run from it, as nobody too. Who has set TMPDIR has chosen.
-in_memory=
-temporary_in_memory() {
-  local memory=/dev/shm needed=4194304 free spare folder
-  [ -z "${TMPDIR:-}" ] && [ "$(stat -f -c %T "$memory" 2> /dev/null)" = tmpfs ] || return 0
-  free=$(df -k --output=avail "$memory" | tail -n 1)
-  spare=$(sed -n 's/^MemAvailable: *\([0-9]*\) kB$/\1/p' /proc/meminfo)
-  [ "$free" -ge "$needed" ] && [ "${spare:-0}" -ge $((2 * needed)) ] || return 0
-  folder=$(mktemp -d "$memory/cuckoomoss.XXXXXX") || return 0
-  chmod 711 "$folder"
-  printf '#!/bin/sh\n' > "$folder/runs"
-  chmod 755 "$folder/runs"
-  if "$folder/runs" 2> /dev/null; then in_memory=$folder; export TMPDIR=$folder; else rm -rf "$folder"; fi
-}
+# kit: the folder of the toolchain.
+kit() { dirname "$(dirname "$(readlink -f "$(command -v rt)")")"; }
 
-# is_made CRATE: its archive is there and newer than all that it is made of.
+# The archives, in target/staticlib, and the crate that each is made of.
+declare -A crate_of=([probe]=probe [desk]=desk_c)
+
+# is_made ARCHIVE: it is there and newer than all that it is made of.
 is_made() {
   local archive=target/staticlib/lib$1.a
   [ -f "$archive" ] && [ -z "$(find crates.txt crates/*/src crates/*/specs crates/*/proofs -newer "$archive" -print -quit)" ]
 }
 
-# Makes the archives that are missing or old. Two `rt staticlib` do not share a target/, so that of probe is made in a copy, beside the other. Says what went wrong.
+# make_archive ARCHIVE [COMMAND..]: has rt prove and build it, or this command, if it is missing or old. Says what went wrong.
 # It is called where a failure is looked at, and there bash ends nothing by itself: so every command here is looked at.
+make_archive() {
+  local name=$1 crate=${crate_of[$1]} began log
+  shift
+  [ $# -gt 0 ] || set -- rt lib
+  if is_made "$name"; then return 0; fi
+  log=$(mktemp) || return 1
+  began=$(date +%s.%N)
+  if (cd "crates/$crate" && "$@") > "$log" 2>&1 && take_archive "$name" "$began"; then
+    rm -f "$log"
+  else
+    cat "$log" >&2
+    rm -f "$log"
+    return 1
+  fi
+}
+
+# take_archive ARCHIVE BEGAN: what was built of its crate. It gets its name last, so that half of one is never taken for it, and is as old as the beginning of its build: a source that is changed
+# meanwhile is newer.
+take_archive() {
+  local archive=target/staticlib/lib$1.a crate=${crate_of[$1]}
+  mkdir -p target/staticlib && cp "crates/$crate/out/lib$crate.a" "$archive.new" && touch -d "@$2" "$archive.new" && mv "$archive.new" "$archive"
+}
+
+# make_archives: both, if they are missing or old.
 make_archives() {
-  local copy probe=0 failed=0
-  copy=$(mktemp -d) || return 1
-  if ! is_made probe; then
-    if copy_sources "$copy"; then
-      (cd "$copy" && rt staticlib probe) > "$copy/probe.log" 2>&1 & probe=$!
-    else
-      failed=1
-    fi
-  fi
-  is_made desk || rt staticlib desk > "$copy/desk.log" 2>&1 || { failed=1; cat "$copy/desk.log" >&2; }
-  if [ "$probe" -ne 0 ]; then
-    if wait "$probe"; then take_archive "$copy" probe || failed=1; else failed=1; cat "$copy/probe.log" >&2; fi
-  fi
-  rm -rf "$copy" || failed=1
+  local failed=0
+  make_archive probe || failed=1
+  make_archive desk || failed=1
   return "$failed"
 }
 
-# copy_sources FOLDER: what an archive is made of, and what was proved of it already.
-copy_sources() {
-  mkdir -p "$1/target" || return 1
-  cp -a crates crates.txt "$1" || return 1
-  [ ! -d target/rlib ] || cp -a target/rlib target/stamp "$1/target"
+# make_archives_over_ci: right after `rt ci` in a clone in which nothing was built before: both are made over the libraries that it has proved and left. `rt lib` takes only what it built itself, and
+# would prove every crate once more. Where anything else was built here, or this fails, nothing is made, and the next make_archives has `rt lib` do it.
+make_archives_over_ci() {
+  local name libraries
+  libraries=(crates/*/out/rlib)
+  [ -d "${libraries[0]}" ] && [ -z "$(find "${libraries[@]}" -maxdepth 1 -name stamp -print -quit)" ] || return 0
+  for name in "${!crate_of[@]}"; do make_archive "$name" lib_over_ci "${crate_of[$name]}" || true; done
 }
 
-# take_archive FOLDER CRATE: the archive that was made there. It gets its name last, so that half of one is never taken for it.
-take_archive() {
-  local archive=target/staticlib/lib$2.a
-  mkdir -p target/staticlib && cp "$1/$archive" "$archive.new" && mv "$archive.new" "$archive"
+# lib_over_ci CRATE: in its folder, what `rt lib` does there once the libraries below are built.
+lib_over_ci() {
+  local crate=$1 kit library words=()
+  kit=$(kit)
+  for library in $(sed -n "s/^$crate staticlib://p" ../../crates.txt); do words+=(--extern "$library=../$library/out/rlib/$library.rlib"); done
+  for library in ../*/out/rlib; do words+=(-L "dependency=$library"); done
+  mkdir -p out
+  "$kit/bin/rattle" build --crate-name "$crate" src/lib.rt --crate-type staticlib --extern "std=$kit/rlibs/std.rlib" -L "dependency=$kit/rlibs" "${words[@]}" --links "$crate=" \
+    --antt-project "$kit/rattle/logic/antt-project.json" --logic-built "$kit/logic_built" --toolchain "$kit/toolchain" --backend llvm --jobs 2 -o "out/lib$crate.a"
 }
 
 # What the programs that compare are linked with; tests/same puts both archives in two builds in its place.

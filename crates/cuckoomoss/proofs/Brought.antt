@@ -2,7 +2,7 @@
 use mathlib.Core.Path.{◌≡◌, subst}
 use mathlib.Core.List.{List}
 use Prim.Native.Nat.{ℕ}
-use Rattle.io.specs.Counts.{IsPrefixLen}
+use Rattle.cuckoomoss.specs.Printed.{IsPrefixLen}
 use Rattle.cuckoomoss.specs.Needs.{CameWithin}
 use Rattle.cuckoomoss.specs.declared.input.Came.{Came}
 use Rattle.cuckoomoss.specs.declared.input.Came.TheVariants.{Bytes}

@@ -1,10 +1,13 @@
 -- What the program holds before it prints: the bytes of a review's room up to the first zero, which are the report (R57). What is then written no contract can say.
-use Rattle.std.specs.Prelude.{◌≡◌, List, ◌++◌, ℕ, take}
-use Rattle.io.specs.Counts.{IsPrefixLen}
+use Rattle.std.specs.Prelude.{◌≡◌, List, ◌++◌, ℕ, ◌≤◌, length, take}
 use Rattle.printing.specs.Zeros.{length_before_zero}
 use Rattle.report.specs.Report.{report}
 use Rattle.desk.specs.Conclusion.{of_text}
 use Rattle.desk.specs.Evidence.{text_exhibits}
+
+-- So many bytes stand at the start of the room. The second part follows from the first: it says so in the form that a slice asks for.
+abbrev pub IsPrefixLen : ℕ → List ℕ → Type 0
+IsPrefixLen n room = (n ≤ length room) × (n ≡ length (take n room))
 
 -- `before_zero`: so many bytes stand before the first zero, or in all. The second part says again, in the form that a slice asks for, that they stand in the room.
 abbrev pub AnswersBeforeZero : (room : List ℕ) (r : ℕ) → Type 0

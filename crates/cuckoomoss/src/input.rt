@@ -1,7 +1,8 @@
-// A text from a descriptor.
+// A text from standard input.
 ghost use Rattle.cuckoomoss.specs.Needs.{CameWithin};
 
 use notation::Text;
+use std::io::{Error, ErrorKind, Read, Stdin};
 
 #[derive(Clone, Copy)]
 pub(crate) struct Input;
@@ -11,40 +12,39 @@ impl Input {
     pub(crate) const BYTES: usize = Text::BYTES + 1;
 }
 
-// How many bytes came; or a read failed, and errno says why.
+// How many bytes came; or a read failed, and the error says why.
 #[derive(Clone, Copy)]
 pub(crate) enum Came {
     Bytes(usize),
-    Failed,
+    Failed(Error),
 }
 
 // One read: no byte comes at the end of the input. A read that a signal interrupted is tried again, up to a number of times that no run uses up.
-fn read_once(fd: i32, room: &mut [u8]) -> Came
+fn read_once(from: &mut Stdin, room: &mut [u8]) -> Came
     ensures { CameWithin result room.new }
 {
-    let mut turns = u64::MAX;
-    while turns > 0 {
-        let got = libc::read(fd, room);
-        if got >= 0 {
-            return Came::Bytes(io::count(got, room));
+    for _ in 0..u64::MAX {
+        match from.read(room) {
+            Ok(n) => return Came::Bytes(n),
+            Err(error) => {
+                if error.kind() != ErrorKind::Interrupted {
+                    return Came::Failed(error);
+                }
+            }
         }
-        if os::errno() != libc::EINTR {
-            return Came::Failed;
-        }
-        turns -= 1;
     }
-    Came::Failed
+    Came::Failed(Error::from(ErrorKind::Interrupted))
 }
 
 // Reads until the room is full, the input ends or a read fails.
-pub(crate) fn fill(fd: i32, room: &mut [u8]) -> Came
+pub(crate) fn fill(from: &mut Stdin, room: &mut [u8]) -> Came
     ensures { CameWithin result room.new }
 {
     let mut done = 0;
     while done < room.len() {
-        let came = read_once(fd, &mut room[done..]);
+        let came = read_once(from, &mut room[done..]);
         let Came::Bytes(n) = came else {
-            return Came::Failed;
+            return came;
         };
         if n == 0 {
             break;

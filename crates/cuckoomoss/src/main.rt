@@ -7,7 +7,6 @@ ghost use Rattle.cuckoomoss.specs.Printed.{AnswersBeforeZero, HoldsReport, Holds
 use asked::{Wanted, asked};
 use desk::Report;
 use input::{Came, Input, fill};
-use libc::{STDERR_FILENO, STDIN_FILENO, STDOUT_FILENO};
 
 mod asked; // what the arguments ask for
 mod input; // a text from a descriptor
@@ -60,49 +59,49 @@ fn evidence_of(text: &[u8]) -> LongOutput
 }
 
 // That these bytes come out, once, no contract can say: the tests compare them.
-fn put_out(bytes: &[u8]) {
-    if !io::write_all(STDOUT_FILENO, bytes) {
-        os::fail(b"writing the report");
+fn put_out(rt: &(impl Print + Eprint), bytes: &[u8]) {
+    if let Err(error) = rt.write_all(bytes) {
+        let _ = eprintln!(rt; "writing the report: {error}");
     }
 }
 
-fn print_review(text: &[u8]) {
+fn print_review(rt: &(impl Print + Eprint), text: &[u8]) {
     let report = report_of(text);
     let bytes = report.bytes;
-    put_out(&bytes[..report.length]);
+    put_out(rt, &bytes[..report.length]);
 }
 
-fn print_evidence(text: &[u8]) {
+fn print_evidence(rt: &(impl Print + Eprint), text: &[u8]) {
     let report = evidence_of(text);
     let bytes = report.bytes;
-    put_out(&bytes[..report.length]);
+    put_out(rt, &bytes[..report.length]);
 }
 
-fn print(text: &[u8], evidence: bool) {
+fn print(rt: &(impl Print + Eprint), text: &[u8], evidence: bool) {
     if evidence {
-        print_evidence(text);
+        print_evidence(rt, text);
     } else {
-        print_review(text);
+        print_review(rt, text);
     }
 }
 
-// Reads the text, reviews it and prints.
-fn answer(evidence: bool) {
+// Reads the text, reviews it and prints. An error is told in a line, and the status is 0 whatever happens.
+fn answer(rt: &HostRuntime, evidence: bool) {
     let mut text = [0u8; Input::BYTES];
-    let came = fill(STDIN_FILENO, &mut text);
-    let Came::Bytes(n) = came else {
-        os::fail(b"reading the text");
-        return;
-    };
-    print(&text[..n], evidence);
+    match fill(&mut rt.stdin(), &mut text) {
+        Came::Bytes(n) => print(rt, &text[..n], evidence),
+        Came::Failed(error) => {
+            let _ = eprintln!(rt; "reading the text: {error}");
+        }
+    }
 }
 
-fn main() {
-    match asked() {
-        Wanted::Report => answer(false),
-        Wanted::Evidence => answer(true),
+fn main(rt: HostRuntime) {
+    match asked(&rt) {
+        Wanted::Report => answer(&rt, false),
+        Wanted::Evidence => answer(&rt, true),
         Wanted::Other => {
-            io::write_all(STDERR_FILENO, b"usage: cuckoomoss [--evidence]\n");
+            let _ = eprintln!(rt; "usage: cuckoomoss [--evidence]");
         }
     }
 }

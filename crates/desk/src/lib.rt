@@ -1,4 +1,4 @@
-// The text review: a text in, a report out, and the evidence for it. C calls both doors by their plain names; include/desk.h declares them.
+// The text review: a text in, a report out, and the evidence for it. desk_c has both doors as C calls them.
 #![tactic(auto)]
 
 ghost use Rattle.desk.specs.Promise.{TextReviewed};
@@ -23,8 +23,7 @@ impl Report {
 }
 
 // Reads a text, writes a schedule, judges it and prints. Its own rooms are full ones on the stack.
-#[unsafe(no_mangle)]
-pub extern "C" fn review_text(text: &[u8], report: &mut [u8]) -> u32
+pub fn review_text(text: &[u8], report: &mut [u8]) -> u32
     ensures { TextReviewed text.now report.old report.new result }
 {
     if report.len() < Report::BYTES {
@@ -47,8 +46,7 @@ pub extern "C" fn review_text(text: &[u8], report: &mut [u8]) -> u32
 }
 
 // The same, and after the report the schedules that show a reuse fault or a race, each below a line in words.
-#[unsafe(no_mangle)]
-pub extern "C" fn review_text_evidence(text: &[u8], report: &mut [u8]) -> u32
+pub fn review_text_evidence(text: &[u8], report: &mut [u8]) -> u32
     ensures { TextEvidenced text.now report.old report.new result }
 {
     if report.len() < Report::EVIDENCE_BYTES {

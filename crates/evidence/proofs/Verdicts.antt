@@ -32,7 +32,7 @@ use Rattle.steps.specs.Ending.{judged}
 use Rattle.steps.specs.Going.{played}
 use Rattle.programs.specs.Program.{program}
 use Rattle.replay.specs.Schedules.{Clean}
-use Rattle.replay.proofs.Judged.{judged_ending, clean_told}
+use Rattle.replay.proofs.Told.{judged_ending, clean_told}
 use Rattle.programs.proofs.Programs as programs
 use Rattle.verdicts.proofs.FirstTold.{or_first, or_second}
 use Rattle.review.specs.Judge.{generations_by, reaches}

@@ -25,7 +25,7 @@ use Rattle.steps.specs.Going.{played, generation}
 use Rattle.replay.specs.Writer.{apart_from, apart_schedule}
 use Rattle.steps.specs.Writing.{picked_first}
 use Rattle.replay.specs.Schedules.{Complete}
-use Rattle.replay.proofs.Judged.{clean_verdict}
+use Rattle.replay.proofs.Told.{clean_verdict}
 use Rattle.replay.proofs.Places.{judged_placed, generation_placed, complete_told, schedule_by_few, schedule_by_low}
 use Rattle.replay.proofs.Writing.{first_complete}
 use Rattle.wording.specs.declared.Shown.{Shown}

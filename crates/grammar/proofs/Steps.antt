@@ -1,19 +1,12 @@
 -- What a token does, where it goes on and where it is refused. Assumes nothing.
-use mathlib.Core.Path.{◌≡◌, refl}
-use mathlib.Core.Bool.{false}
-use mathlib.Core.List.{List, [], ◌∷◌}
 use Prim.Native.Nat.{ℕ}
-use types.Run.{OneOf, miss}
-use denote.Enum.Declared
 use Rattle.grammar.specs.declared.tokens.Token.{Token}
 use Rattle.grammar.specs.declared.tokens.Token.TheVariants.{Access, Signal, Return, Number, Semi, Bars, Misfit}
 use Rattle.grammar.specs.declared.automaton.State.{State}
 use Rattle.grammar.specs.declared.automaton.State.TheVariants.{Word, Address, Barrier, Count, Close, Parting}
 use Rattle.grammar.specs.declared.automaton.TokenMove.{TokenMove}
 use Rattle.grammar.specs.declared.automaton.TokenMove.TheVariants.{Refuse, On, Row, Thread}
-use Rattle.grammar.specs.Automaton.{at_word, at_number, at_close, at_parting, token_moves, may_end}
-use Rattle.grammar.specs.contracts.tokens.Token as T
-use Rattle.grammar.specs.contracts.automaton.State as S
+use Rattle.grammar.specs.Automaton.{at_word, at_number, at_close, at_parting, token_moves}
 
 -- a property of a token and its move holds of every token, once it holds of those that go on and of refusal
 module _ (P : Token → TokenMove → Type 0) (off : (t : Token) → P t Refuse) where
@@ -66,30 +59,3 @@ by_step P off a s r g b n c p (Barrier k) = by_number (P (Barrier k)) (off (Barr
 by_step P off a s r g b n c p (Count k x) = by_number (P (Count k x)) (off (Count k x)) (λ y. Row k x y) (n k x)
 by_step P off a s r g b n c p Close = by_close (P Close) (off Close) c
 by_step P off a s r g b n c p Parting = by_part (P Parting) (off Parting) p
-
--- the numbers of the tokens that go on nowhere: those of the `_` arms of `step`
-abbrev pub others : State → List ℕ
-others Word = 3 ∷ 4 ∷ 5 ∷ 6 ∷ []
-others (Address k) = 0 ∷ 1 ∷ 2 ∷ 4 ∷ 5 ∷ 6 ∷ []
-others (Barrier k) = 0 ∷ 1 ∷ 2 ∷ 4 ∷ 5 ∷ 6 ∷ []
-others (Count k b) = 0 ∷ 1 ∷ 2 ∷ 4 ∷ 5 ∷ 6 ∷ []
-others Close = 0 ∷ 1 ∷ 2 ∷ 3 ∷ 5 ∷ 6 ∷ []
-others Parting = 0 ∷ 1 ∷ 2 ∷ 3 ∷ 4 ∷ 6 ∷ []
-
-refuses : (s : State) (t : Token) → OneOf (others s) (Declared.tag_of T.the_type t) → Refuse ≡ token_moves s t
-refuses =
-    by_step (λ s t m. OneOf (others s) (Declared.tag_of T.the_type t) → Refuse ≡ m) (λ s t h. refl)
-    (λ k h. absurd (miss (others Word) 0 tt h)) (λ k h. absurd (miss (others Word) 1 tt h)) (λ h. absurd (miss (others Word) 2 tt h))
-    (λ k g h. absurd (miss (others (Address k)) 3 tt h)) (λ k b h. absurd (miss (others (Barrier k)) 3 tt h))
-    (λ k b n h. absurd (miss (others (Count k b)) 3 tt h)) (λ h. absurd (miss (others Close) 4 tt h)) (λ h. absurd (miss (others Parting) 5 tt h))
-
-pub refused : (s s' : State) (t : Token) → s ≡ s' → OneOf (others s') (Declared.tag_of T.the_type t) → Refuse ≡ token_moves s t
-refused s s' t e h = rw e (refuses s' t h)
-
-pub no_end : (s : State) → OneOf (0 ∷ 1 ∷ 2 ∷ 3 ∷ 4 ∷ []) (Declared.tag_of S.the_type s) → false ≡ may_end s
-no_end Word h = refl
-no_end (Address k) h = refl
-no_end (Barrier k) h = refl
-no_end (Count k b) h = refl
-no_end Close h = refl
-no_end Parting h = absurd (miss (0 ∷ 1 ∷ 2 ∷ 3 ∷ 4 ∷ []) 5 tt h)

@@ -28,6 +28,7 @@ pub enum TokenMove {
     Thread,
 }
 
+#[tactic(auto, unfolding(crate::specs::Automaton::token_moves))]
 pub fn take_token(state: State, token: Token) -> TokenMove
     ensures { AnswersTakeToken state token result }
 {

@@ -19,15 +19,18 @@ use Rattle.happens.specs.Needs.{does_meet_row, last_below, or_last, seat, sits, 
 module _ (found : ℕ → Bool) (none : ℕ) where
   pub last_here : (j : ℕ) → 0 < j → found (j - 1) ≡ true → last_below found none j ≡ j - 1
   unfolding last_below
+  last_here Prim.Native.Nat.zero l e = elim l [ ]
   last_here (suc j) l e = let q : suc j - 1 ≡ j = omega arith in rw (q, rw q at e)
 
   pub last_on : (j : ℕ) → 0 < j → found (j - 1) ≡ false → last_below found none j ≡ last_below found none (j - 1)
   unfolding last_below
+  last_on Prim.Native.Nat.zero l e = elim l [ ]
   last_on (suc j) l e = let q : suc j - 1 ≡ j = omega arith in rw (q, rw q at e)
 
   -- it is found, where there is one
   last_found : (n k : ℕ) → k < n → found k ≡ true → found (last_below found none n) ≡ true
   unfolding last_below
+  last_found Prim.Native.Nat.zero k l e = elim l [ ]
   last_found (suc n) k l e =
       ⊎_elim (λ (t : found n ≡ true). rw t t)
       (λ (f : found n ≡ false).

@@ -32,7 +32,7 @@ use Rattle.replay.specs.Schedules.{state_after, Complete, stopped, mismatched, C
 use Rattle.programs.proofs.Programs.{threads}
 use Rattle.replay.proofs.Few.{legal_few, gens_few}
 use Rattle.replay.proofs.Ties.{Stands, command_is, command_row}
-use Rattle.replay.proofs.Judged.{clean_told}
+use Rattle.replay.proofs.Told.{clean_told}
 use Rattle.replay.proofs.Plays.{PlaysTo, through, refused_at, mismatched_at, plays_all, clean_through}
 
 pub record Placed (t : Told) : Type 0 where

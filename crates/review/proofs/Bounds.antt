@@ -23,7 +23,7 @@ use Rattle.verdicts.specs.FirstTold.{or_else}
 use Rattle.steps.specs.Going.{played}
 use Rattle.steps.specs.Ending.{judged}
 use Rattle.verdicts.proofs.FirstTold.{or_first, or_either}
-use Rattle.replay.proofs.Judged.{judged_ending}
+use Rattle.replay.proofs.Told.{judged_ending}
 use Rattle.replay.proofs.Places.{Placed, placed, checked_placed, judged_placed, complete_told}
 use Rattle.replay.specs.Schedules.{Complete}
 use Rattle.sheet.specs.declared.Pair.{Pair}

@@ -38,7 +38,7 @@ use Rattle.review.specs.Judge.{generations_by, reaches}
 use Rattle.replay.specs.Schedules.{state_after, Complete, stopped, mismatched, Clean, Agree, Disagree, unclean}
 use Rattle.replay.specs.Schedules as schedules
 use Rattle.review.specs.Agreement.{Judges}
-use Rattle.replay.proofs.Judged.{stops_by, clean_by}
+use Rattle.replay.proofs.Told.{stops_by, clean_by}
 use Rattle.programs.proofs.Programs as programs
 use Rattle.replay.proofs.Plays.{PlaysTo, through, refused_at, mismatched_at, PlaysThrough, plays_all, clean_through, legal_through}
 use Rattle.replay.proofs.Schedules.{unlike, complete_from, clean_to, generation_is}

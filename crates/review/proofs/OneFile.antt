@@ -25,7 +25,7 @@ use Rattle.programs.specs.Program.{program}
 use Rattle.replay.specs.Schedules.{Complete, Agree, Alike}
 use Rattle.verdicts.proofs.FirstTold.{or_first, or_second}
 use Rattle.replay.proofs.Plays.{clean_through}
-use Rattle.replay.proofs.Judged.{judged_ending}
+use Rattle.replay.proofs.Told.{judged_ending}
 use Rattle.programs.proofs.Reaching.{reaches_same}
 use Rattle.rooms.specs.Refusals.{review_refusal}
 use Rattle.rooms.proofs.Refusals.{Admitted, admitted}

@@ -34,7 +34,7 @@ use Rattle.review.specs.Judge.{generations_by, reaches, verdict_of}
 use Rattle.review.specs.Agreement.{number, Judges, Reviewed}
 use Rattle.verdicts.proofs.FirstTold.{or_first, or_second}
 use Rattle.replay.proofs.Plays.{PlaysThrough, clean_through}
-use Rattle.replay.proofs.Judged.{judged_ending, clean_verdict}
+use Rattle.replay.proofs.Told.{judged_ending, clean_verdict}
 use Rattle.review.proofs.Rooms.{put, put_front, put_beyond}
 use Rattle.rooms.proofs.Refusals.{Admitted, refused_small, admitted, admitted_sizes}
 use Rattle.happens.proofs.Reaching.{same_reached, related_reaches}

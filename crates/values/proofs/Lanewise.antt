@@ -70,7 +70,7 @@ acting_lower t e μ (suc n) l = rw (other_bit t n (λ q. omega arith)) (acting_l
 
 acting_single : (t : ℕ) (e : Expr) (μ : Mem) → cond (test e t μ) (1 * 2 ^ t) 0 ≡ acting (1 * 2 ^ t) e μ (suc t)
 unfolding acting
-acting_single t e μ = rw (own_bit t, acting_lower t e μ t (omega arith), or_zero_l)
+acting_single t e μ = rw (own_bit t, acting_lower t e μ t (omega arith), or_zero_l (cond (test e t μ) (1 * 2 ^ t) 0))
 
 pub acting_alone : (m : ℕ) (e : Expr) (μ : Mem) (n r : ℕ) → n ≢ 0 → n ≤ 32 → m < 2 ^ n → m ≡ (1 * 2 ^ (n - 1)) % 2 ^ 32 → r ≡ cond (test e (n - 1) μ) m 0 → r ≡ acting m e μ 32
 acting_alone m e μ n r z l h q p =

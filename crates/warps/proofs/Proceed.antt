@@ -1,6 +1,6 @@
 -- Table 2 as a function, and who writes last.
 use mathlib.Core.Path.{◌≡◌, refl, sym, ap, ◌∙◌, subst}
-use mathlib.Core.Logic.{◌⊎◌, ⊎_elim, by_cases, ◌≢◌}
+use mathlib.Core.Logic.{⊎_elim, by_cases, ◌≢◌}
 use mathlib.Core.Bool.{Bool, true, false, ◌||◌, cond}
 use mathlib.Core.List.{List, [], ◌∷◌}
 use Prim.Native.Nat.{ℕ, zero, suc, ◌<◌}
@@ -114,7 +114,7 @@ module _ (body : Bodies) (n : ℕ) where
   at Θ Δ μ e = λ i. record { stack = e i; active = Θ; off = Δ; mem = μ }
 
   -- Table 2 leaves no choice
-  pub only : {W W' : List Item} {Θ Θ' : Mask} {Δ Δ' : DisableMask} {μ μ' : Mem} → WarpStep body n W Θ Δ μ W' Θ' Δ' μ'
+  pub only : {W : List Item} {Θ : Mask} {Δ : DisableMask} {μ : Mem} {W' : List Item} {Θ' : Mask} {Δ' : DisableMask} {μ' : Mem} → WarpStep body n W Θ Δ μ W' Θ' Δ' μ'
       → ◌≡◌ {A = Config} (record { stack = W'; active = Θ'; off = Δ'; mem = μ' }) (proceed W Θ Δ μ)
   unfolding proceed execute
   only (skip_w x) = acts _ _ x

@@ -128,7 +128,7 @@ module _ (looped : ℕ → Bool) where
   again_in (tok call m ∷ W) a = absurd a
 
   module _ (body : Bodies) (L : Confined body looped) (n : ℕ) where
-    pub shape_next : {W W' : List Item} {Θ Θ' : Mask} {Δ Δ' : DisableMask} {μ μ' : Mem} → WarpStep body n W Θ Δ μ W' Θ' Δ' μ' → Shape looped W → Shape looped W'
+    pub shape_next : {W : List Item} {Θ : Mask} {Δ : DisableMask} {μ : Mem} {W' : List Item} {Θ' : Mask} {Δ' : DisableMask} {μ' : Mem} → WarpStep body n W Θ Δ μ W' Θ' Δ' μ' → Shape looped W → Shape looped W'
     unfolding in_loop called
     shape_next (skip_w x) h = h.2
     shape_next (assign_w x) h = h.2
@@ -251,7 +251,7 @@ module _ (t : ℕ) where
     seen W k m d true o h = token_good W k m d (o refl) h
     seen W k m d false o h = h
 
-    pub good_next : {W W' : List Item} {Θ Θ' : Mask} {Δ Δ' : DisableMask} {μ μ' : Mem} → WarpStep body n W Θ Δ μ W' Θ' Δ' μ'
+    pub good_next : {W : List Item} {Θ : Mask} {Δ : DisableMask} {μ : Mem} {W' : List Item} {Θ' : Mask} {Δ' : DisableMask} {μ' : Mem} → WarpStep body n W Θ Δ μ W' Θ' Δ' μ'
         → (Θ t ≡ true → Δ t ≡ on) → Good t W (need (Θ t) (Δ t)) → Good t W' (need (Θ' t) (Δ' t))
     good_next (skip_w x) o h = h
     good_next (assign_w x) o h = h
@@ -264,7 +264,7 @@ module _ (t : ℕ) where
     good_next (token_w {k = k} {m = m} {W = W} {Θ = Θ} {Δ = Δ}) o h = idle_good W (m t) (Δ t) k (seen W k m (Δ t) (Θ t) o h)
     good_next (inact_w s S {k = k} {m = m} {W = W} {Θ = Θ} {Δ = Δ} x) o h = good_drop S (tok k m ∷ W) (need (Θ t) (Δ t)) h
 
-    able_next : {W W' : List Item} {Θ Θ' : Mask} {Δ Δ' : DisableMask} {μ μ' : Mem} → WarpStep body n W Θ Δ μ W' Θ' Δ' μ'
+    able_next : {W : List Item} {Θ : Mask} {Δ : DisableMask} {μ : Mem} {W' : List Item} {Θ' : Mask} {Δ' : DisableMask} {μ' : Mem} → WarpStep body n W Θ Δ μ W' Θ' Δ' μ'
         → (Θ t ≡ true → Δ t ≡ on) → Θ' t ≡ true → Δ' t ≡ on
     able_next (skip_w x) o h = o h
     able_next (assign_w x) o h = o h
@@ -278,7 +278,7 @@ module _ (t : ℕ) where
     able_next (inact_w s S x) o h = o h
 
 module _ (looped : ℕ → Bool) (body : Bodies) (L : Confined body looped) (n : ℕ) where
-  pub next : {W W' : List Item} {Θ Θ' : Mask} {Δ Δ' : DisableMask} {μ μ' : Mem} → WarpStep body n W Θ Δ μ W' Θ' Δ' μ' → Inv looped n W Θ Δ → Inv looped n W' Θ' Δ'
+  pub next : {W : List Item} {Θ : Mask} {Δ : DisableMask} {μ : Mem} {W' : List Item} {Θ' : Mask} {Δ' : DisableMask} {μ' : Mem} → WarpStep body n W Θ Δ μ W' Θ' Δ' μ' → Inv looped n W Θ Δ → Inv looped n W' Θ' Δ'
   next s I =
       record {
         shape = shape_next looped body L n s I.shape;

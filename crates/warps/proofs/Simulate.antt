@@ -2,7 +2,7 @@
 use mathlib.Core.Path.{◌≡◌, refl, sym, ap, ◌∙◌, subst}
 use mathlib.Core.Bool.{Bool, true, false, ◌&&◌, not, cond}
 use mathlib.Core.List.{List, [], ◌∷◌, ◌++◌}
-use Prim.Native.Nat.{ℕ, ◌+◌, ◌<◌}
+use Prim.Native.Nat.{ℕ, ◌<◌}
 use borrow.Author.Tests.{lt-ltb, le-ltb}
 use lib.Dec.{ltb}
 use lib.ListN.{set}
@@ -236,7 +236,7 @@ module _ (body : Bodies) (n : ℕ) where
         (sweep body n told (stacks n W Θ Δ) (λ k. updated k Θ c e μ) (λ t l. rw (lt-ltb t n l) (stores t (Θ t) (updated t Θ c e μ))) (λ t l. rw (le-ltb t n l)))
 
   module _ (looped : ℕ → Bool) (L : Confined body looped) where
-    pub matched : {W W' : List Item} {Θ Θ' : Mask} {Δ Δ' : DisableMask} {μ μ' : Mem} → Inv looped n W Θ Δ → WarpStep body n W Θ Δ μ W' Θ' Δ' μ'
+    pub matched : {W : List Item} {Θ : Mask} {Δ : DisableMask} {μ : Mem} {W' : List Item} {Θ' : Mask} {Δ' : DisableMask} {μ' : Mem} → Inv looped n W Θ Δ → WarpStep body n W Θ Δ μ W' Θ' Δ' μ'
         → Interleaved body n (stacks n W Θ Δ) μ (stacks n W' Θ' Δ') μ'
     matched I (skip_w {W = W} {Θ = Θ} {Δ = Δ} {μ = μ} x) = plain _ _ Θ Θ Δ Δ μ (λ t l. skip_lane t body W (Δ t) μ (Θ t))
     matched I (assign_w {x = c} {e = e} {W = W} {Θ = Θ} {Δ = Δ} {μ = μ} x) = assigned c e W Θ Δ μ

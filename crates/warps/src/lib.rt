@@ -15,4 +15,3 @@
 //
 // What the crate does not know: arrays, words and bits, limits, tables and rows, refusals.
 #![tactic(auto)]
-

@@ -1,0 +1,9 @@
+-- `put_verdict` meets its contract. Assumes nothing.
+use Rattle.printing.proofs.Placing.{puts_on}
+use Rattle.report.specs.Report.{verdict_line}
+use Rattle.report.proofs.put_verdict.Goals as goal
+
+pub returns : goal.returns
+unfolding verdict_line
+returns c =
+    puts_on (puts_on (puts_on c.put-after_word.ensures c.put_number-after_number.ensures) c.put-after_place.ensures) c.put_two.ensures

@@ -1,0 +1,16 @@
+-- The first c generations are in the room. Assumes nothing.
+use mathlib.Core.Path.{◌≡◌, refl, ap, ◌∙◌}
+use Prim.Native.Nat.{ℕ, ◌≤◌, ◌-◌}
+use mathlib.Core.List.{List}
+use native.Mathlib.Omega.{arith}
+use lib.ListN.{length, get_or, set}
+use Rattle.tables.specs.Limits.{most_rows}
+use Rattle.review.proofs.Rooms.{put, put_more}
+use borrow.Author.Rules.{rules}
+use Rattle.review.proofs.generations.put_generations.Given as goal
+
+abbrev pub invariant-loop-c : goal.invariant-loop-c
+invariant-loop-c l = (l.c ≤ l.m) × (length l.room ≡ length l.initial.room) × (l.room ≡ put l.generations l.c l.initial.room)
+
+abbrev pub decreases-loop-c : goal.decreases-loop-c
+decreases-loop-c l = l.m - l.c

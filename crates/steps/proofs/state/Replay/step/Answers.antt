@@ -1,0 +1,102 @@
+-- `Replay::step` meets its contract: the row and its change are found, and stored where the step ran. Assumes nothing.
+use mathlib.Core.Path.{sym, ◌∙◌}
+use Prim.Native.Nat.{min}
+use native.Mathlib.Omega.{arith}
+use borrow.Author.Rules.{rules}
+use borrow.Author.Tests.{not-true, not-false}
+use Rattle.tables.specs.Limits.{most_threads, barriers}
+use Rattle.tables.proofs.Rows.{first_within}
+use Rattle.steps.proofs.Stepping.{found, found_thread, found_next, answers_kept, answers_on, first_small, stored}
+use Rattle.steps.proofs.state.Replay.step.Goals as goal
+
+pub thread_row-row-requires : goal.thread_row-row-requires
+unfolding most_threads
+thread_row-row-requires c =
+    let t = min c.args.t most_threads in
+    omega (arith, c.first_row.ensures, first_small c.args.lengths.now (λ i. omega (arith, c.type_inv.lengths i)) t)
+
+pub returns-then-not-goes_on : goal.returns-then-not-goes_on
+returns-then-not-goes_on c =
+    let a = c.args in
+    let F =
+    found a.commands.now a.lengths.now a.self a.t c.first_row.result _ _ _ _ (λ l. c.first_row.ensures ∙ first_within a.lengths.now a.t (omega arith))
+    c.at-n.ensures c.at-wait.ensures c.thread_row-row.ensures.0 c.run_row-made.ensures in
+    answers_kept F (sym c.goes_on.ensures ∙ c.if-not-goes_on.true)
+
+pub overflow_add-self : goal.overflow_add-self
+overflow_add-self c =
+    let a = c.args in
+    let F =
+    found a.commands.now a.lengths.now a.self a.t c.first_row.result _ _ _ _ (λ l. c.first_row.ensures ∙ first_within a.lengths.now a.t (omega arith))
+    c.at-n.ensures c.at-wait.ensures c.thread_row-row.ensures.0 c.run_row-made.ensures in
+    let n = found_next F (sym c.goes_on.ensures ∙ c.if-not-goes_on.false) in
+    omega (arith, n, c.at-n.ensures, c.type_inv.lengths a.t)
+
+pub offset_bounds-self-t : goal.offset_bounds-self-t
+unfolding most_threads
+offset_bounds-self-t c =
+    let a = c.args in
+    let F =
+    found a.commands.now a.lengths.now a.self a.t c.first_row.result _ _ _ _ (λ l. c.first_row.ensures ∙ first_within a.lengths.now a.t (omega arith))
+    c.at-n.ensures c.at-wait.ensures c.thread_row-row.ensures.0 c.run_row-made.ensures in
+    let l = found_thread F (sym c.goes_on.ensures ∙ c.if-not-goes_on.false) in
+    omega (arith, l)
+
+pub bounds-self-t : goal.bounds-self-t
+unfolding most_threads
+bounds-self-t c =
+    let a = c.args in
+    let F =
+    found a.commands.now a.lengths.now a.self a.t c.first_row.result _ _ _ _ (λ l. c.first_row.ensures ∙ first_within a.lengths.now a.t (omega arith))
+    c.at-n.ensures c.at-wait.ensures c.thread_row-row.ensures.0 c.run_row-made.ensures in
+    let l = found_thread F (sym c.goes_on.ensures ∙ c.if-not-goes_on.false) in
+    omega (arith, l)
+
+pub returns : goal.returns
+returns c =
+    let a = c.args in
+    let F =
+    found a.commands.now a.lengths.now a.self a.t c.first_row.result _ _ _ _ (λ l. c.first_row.ensures ∙ first_within a.lengths.now a.t (omega arith))
+    c.at-n.ensures c.at-wait.ensures c.thread_row-row.ensures.0 c.run_row-made.ensures in
+    answers_on F (sym c.goes_on.ensures ∙ c.if-not-goes_on.false)
+    (stored a.self a.t _ c.run_row-made.result c.at-n.ensures c.settle.ensures)
+
+pub at-n-requires : goal.at-n-requires
+unfolding barriers
+at-n-requires c = search rules
+
+pub at-wait-requires : goal.at-wait-requires
+unfolding barriers
+at-wait-requires c = search rules
+
+pub first_row-requires : goal.first_row-requires
+unfolding barriers
+first_row-requires c = search rules
+
+pub offset_bounds-self-b : goal.offset_bounds-self-b
+unfolding barriers
+offset_bounds-self-b c = search rules
+
+pub bounds-self-b : goal.bounds-self-b
+unfolding barriers
+bounds-self-b c = search rules
+
+pub run_row-made-requires : goal.run_row-made-requires
+unfolding barriers
+run_row-made-requires c = search rules
+
+pub goes_on-requires : goal.goes_on-requires
+unfolding barriers
+goes_on-requires c = search rules
+
+pub offset_bounds-self-b-2 : goal.offset_bounds-self-b-2
+unfolding barriers
+offset_bounds-self-b-2 c = search rules
+
+pub bounds-self-b-2 : goal.bounds-self-b-2
+unfolding barriers
+bounds-self-b-2 c = search rules
+
+pub settle-requires : goal.settle-requires
+unfolding barriers
+settle-requires c = search rules

@@ -1,0 +1,39 @@
+-- `fill_row` meets its contract: a row has operands or none. Assumes nothing.
+use Rattle.std.proofs.Common.{arith}
+use Rattle.kernels.specs.Limits.{most_expressions}
+use Rattle.values.proofs.Several.{strips, leaf_row, pair_row}
+use Rattle.values.proofs.wide.fill_row.Goals as goal
+
+pub overflow_mul-i : goal.overflow_mul-i
+unfolding most_expressions
+overflow_mul-i c = omega arith
+
+pub overflow_mul-i-2 : goal.overflow_mul-i-2
+unfolding most_expressions
+overflow_mul-i-2 c = omega arith
+
+pub overflow_add-i : goal.overflow_add-i
+unfolding most_expressions
+overflow_add-i c = omega arith
+
+pub returns-then-kind-lt-SUM : goal.returns-then-kind-lt-SUM
+returns-then-kind-lt-SUM c =
+    let a = c.args in
+    leaf_row a.expressions.now _ _ a.cells.now c.at-kind.ensures c.at-x.ensures c.at-held.ensures c.fill_leaf.ensures
+
+pub overflow_mul-i-3 : goal.overflow_mul-i-3
+unfolding most_expressions
+overflow_mul-i-3 c = omega arith
+
+pub overflow_add-i-2 : goal.overflow_add-i-2
+unfolding most_expressions
+overflow_add-i-2 c = omega arith
+
+pub fill_pair-requires : goal.fill_pair-requires
+fill_pair-requires c =
+    (c.if-kind-lt-SUM.false, strips c.requires _ _ c.strip-a.ensures c.strip-b.ensures)
+
+pub returns : goal.returns
+returns c =
+    let a = c.args in
+    pair_row a.expressions.now _ _ a.cells.now c.at-kind.ensures c.at-x.ensures c.at-y.ensures c.strip-a.ensures c.strip-b.ensures c.fill_pair.ensures
