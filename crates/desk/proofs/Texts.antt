@@ -1,7 +1,7 @@
 -- A text read into full tables, and what is concluded from it. Assumes nothing.
 use mathlib.Core.Path.{refl, ◌≡◌, sym, ap, ◌∙◌, subst}
 use mathlib.Core.Logic.{◌≢◌}
-use mathlib.Core.List.{List, [], ◌∷◌}
+use mathlib.Core.List.{List, []}
 use Prim.Native.Nat.{ℕ, ◌*◌, ◌≤◌}
 use native.Mathlib.Omega.{arith}
 use lib.ListN.{length, take, drop, length-append, length-map}
@@ -17,7 +17,6 @@ use Rattle.notation.specs.Reading.{row_numbers, thread_lengths, Answer, answered
 use Rattle.notation.specs.Promise.{Read}
 use Rattle.notation.proofs.Readings.{denoted_found}
 use Rattle.notation.proofs.Tabled.{listing_long}
-use Rattle.notation.specs.contracts.reading.Reading as R
 use Rattle.sheet.specs.declared.Sheet.{Sheet}
 use Rattle.sheet.specs.Sheet.{sheet_of}
 use Rattle.report.specs.declared.Conclusion.{Conclusion}

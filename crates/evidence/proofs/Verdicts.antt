@@ -36,7 +36,6 @@ use Rattle.replay.proofs.Told.{judged_ending, clean_told}
 use Rattle.programs.proofs.Programs as programs
 use Rattle.verdicts.proofs.FirstTold.{or_first, or_second}
 use Rattle.review.specs.Judge.{generations_by, reaches}
-use Rattle.review.specs.Agreement.{number}
 use Rattle.review.proofs.Judging.{settled}
 use Rattle.evidence.specs.Evidence.{Disputes, HasBefore, against, first_first, second_first}
 use Rattle.evidence.proofs.Evident.{disputes, first_in, first_long}

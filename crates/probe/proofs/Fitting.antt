@@ -24,7 +24,6 @@ use Rattle.replay.specs.declared.writer.Written.{Written}
 use Rattle.verdicts.proofs.FirstTold.{or_either}
 use Rattle.replay.proofs.Refusals.{unwritten_keeps}
 use Rattle.replay.proofs.Places.{Placed, placed, checked_placed, schedule_few}
-use Rattle.review.specs.Agreement.{number}
 use Rattle.kernels.specs.Limits.{most_statements}
 use Rattle.runs.specs.declared.Course.{Course}
 use Rattle.runs.specs.Run.{RunsKernel}

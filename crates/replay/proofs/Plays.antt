@@ -20,9 +20,7 @@ use Rattle.schedules.specs.Threads.{Threads, at, after, gens, log_of, Legal, Ste
 use Rattle.schedules.proofs.Step.{gen_other}
 use Rattle.schedules.proofs.Tests.{not_matching}
 use Rattle.steps.specs.declared.state.Replay.{Replay}
-use Rattle.steps.specs.declared.step.How.TheVariants.{Mismatch}
 use Rattle.steps.specs.declared.step.Did.{Did}
-use Rattle.steps.specs.declared.step.Did.TheVariants.{NotAllowed}
 use Rattle.steps.specs.declared.step.Stepped.{Stepped}
 use Rattle.steps.specs.declared.going.Replayed.{Replayed}
 use Rattle.steps.specs.State.{start}

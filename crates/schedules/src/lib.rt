@@ -46,4 +46,3 @@
 // What the crate does not know: arrays, words and bits, limits, tables and rows, addresses and conflict, the record that a barrier keeps,
 // verdicts. Which two commands may not register in one generation is a parameter, `clash`: the laws asked of it are in `Lawful`.
 #![tactic(auto)]
-

@@ -9,7 +9,7 @@ use lib.Dec.{eqb, ltb}
 use borrow.Author.Tests.{lt-ltb, le-ltb, le-leb, lt-leb, ltb-true}
 use Rattle.relation.proofs.Truth.{split, both}
 use Rattle.tables.specs.Limits.{barriers}
-use Rattle.tables.specs.Rows.{kind, name, count, arrive, sync, registers, syncs}
+use Rattle.tables.specs.Rows.{kind, name, count, arrive, sync, registers}
 use Rattle.barriers.specs.Counting.{counted}
 use Rattle.turns.specs.Turns.{may_go}
 use Rattle.barriers.specs.declared.barrier.Barrier.{Barrier}

@@ -22,7 +22,7 @@ use Rattle.steps.specs.declared.change.Change.{Change}
 use Rattle.steps.specs.declared.row.Row.{Row}
 use Rattle.steps.specs.declared.state.Replay.{Replay}
 use Rattle.steps.specs.State.{ran_so_far}
-use Rattle.steps.specs.Step.{allowed, command, stepped}
+use Rattle.steps.specs.Step.{allowed, stepped}
 use Rattle.steps.specs.Writing.{does_go_on, stepping, picked, picked_first, writes, FilledBy}
 use Rattle.steps.proofs.Stepping.{Found, found_did, found_after, found_command, stored}
 use Rattle.steps.proofs.Filled.{filled_by}

@@ -20,7 +20,7 @@ use Rattle.sets.specs.declared.Set.{Set}
 use Rattle.sets.specs.Set.{has, none, put, has_but}
 use Rattle.sets.proofs.Sets.{Sized, has_none, has_put, put_past, sized_none, sized_put}
 use Rattle.turns.specs.declared.ready.Ready.{Ready}
-use Rattle.turns.specs.Turns.{held, released, settled, has_any_left, may_step, does_go_first, lowest_or}
+use Rattle.turns.specs.Turns.{held, settled, has_any_left, may_step, does_go_first, lowest_or}
 use Rattle.turns.specs.Ready.{none_ready, looked, held_below, held_after}
 use Rattle.turns.proofs.Turns.{left_past, left_so, released_nobody}
 

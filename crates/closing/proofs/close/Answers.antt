@@ -4,7 +4,6 @@ use lib.ListN.{length}
 use Rattle.relation.specs.Table.{words}
 use Rattle.relation.proofs.Rooms.{written, refused}
 use Rattle.closing.proofs.Closed.{closed}
-use borrow.Author.Rules.{rules}
 use Rattle.closing.proofs.close.Goals as goal
 
 pub returns-then-room-table_words : goal.returns-then-room-table_words

@@ -1,13 +1,10 @@
 -- `before_zero` meets its contract: what the loop has passed and the run from there on are the whole run. Assumes nothing.
-use mathlib.Core.Path.{◌≡◌, ap, sym}
+use mathlib.Core.Path.{ap, sym}
 use mathlib.Core.Bool.{not}
-use Prim.Native.Nat.{◌+◌, ◌-◌, ◌≤◌}
 use native.Mathlib.Omega.{arith}
-use lib.ListN.{length, drop}
 use lib.Seq.{length-take-le}
-use borrow.Author.Rules.{rules}
 use borrow.Author.Tests.{eq-eqb, ne_eqb}
-use Rattle.printing.specs.Zeros.{nonzero, length_before_zero}
+use Rattle.printing.specs.Zeros.{nonzero}
 use Rattle.spelling.proofs.Scans.{run_on, run_off, run_out}
 use Rattle.cuckoomoss.proofs.before_zero.Goals as goal
 
@@ -23,6 +20,7 @@ returns-after-loop-i c =
 
 pub returns-then-room-i-eq0 : goal.returns-then-room-i-eq0
 returns-then-room-i-eq0 c =
-    let l = c.loop-i in
-    (omega (arith, l.invariant.1, run_off nonzero c.args.room.now l.i c.loop-i-test.true (ap not (eq-eqb _ _ c.if-room-i-eq0.true))),
-    (l.invariant.0, sym (length-take-le _ _ l.invariant.0)))
+    let l = c.loop-i in (
+      omega (arith, l.invariant.1, run_off nonzero c.args.room.now l.i c.loop-i-test.true (ap not (eq-eqb _ _ c.if-room-i-eq0.true))),
+      (l.invariant.0, sym (length-take-le _ _ l.invariant.0)),
+    )

@@ -1,6 +1,5 @@
 -- `review_text` meets its contract. Assumes nothing.
 use native.Mathlib.Omega.{arith}
-use borrow.Author.Rules.{rules}
 use Rattle.desk.specs.Promise.{least_room}
 use Rattle.desk.proofs.Tabled.{full_numbers, full_threads, full_rows, full_words}
 use Rattle.desk.proofs.Reports.{refused_room, reviewed_text}

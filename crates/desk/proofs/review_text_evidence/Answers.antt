@@ -2,7 +2,6 @@
 use mathlib.Core.Path.{sym, ◌∙◌}
 use native.Mathlib.Omega.{arith}
 use lib.Seq.{length-take-le}
-use borrow.Author.Rules.{rules}
 use Rattle.desk.specs.Evidence.{least_evidence}
 use Rattle.desk.proofs.Tabled.{full_numbers, full_threads, full_rows, full_words}
 use Rattle.desk.proofs.Evidenced.{evidence_refused, evidenced_text}

@@ -6,7 +6,6 @@ use Prim.Native.Nat.{ℕ}
 use Rattle.relation.specs.Chains.{Chain}
 use Rattle.relation.specs.Table.{Related, Writes}
 use Rattle.probe.specs.Promise.{ProbesClose}
-use borrow.Author.Rules.{rules}
 use Rattle.probe.proofs.probe_close.Goals as goal
 
 closed : (relation relation' : List ℕ) (m : ℕ) (said test : Bool) → Writes (Chain (Related relation m)) relation relation' m said → said ≡ test

@@ -1,6 +1,5 @@
 -- `probe_read` meets its contract: the rest of the text is where it is found to begin. Assumes nothing.
 use native.Mathlib.Omega.{arith}
-use borrow.Author.Rules.{rules}
 use Rattle.probe.specs.Numbers.{answer_room}
 use Rattle.probe.proofs.Fitting.{reading_counted}
 use Rattle.probe.proofs.Telling.{read_short, read_told, rest_begins}

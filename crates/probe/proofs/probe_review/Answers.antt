@@ -1,6 +1,5 @@
 -- `probe_review` meets its contract. Assumes nothing.
 use native.Mathlib.Omega.{arith}
-use borrow.Author.Rules.{rules}
 use Rattle.probe.specs.Numbers.{answer_room}
 use Rattle.probe.proofs.Fitting.{review_counted, pairs_counted}
 use Rattle.probe.proofs.Telling.{review_short, review_told}

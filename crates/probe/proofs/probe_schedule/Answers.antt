@@ -1,6 +1,5 @@
 -- `probe_schedule` meets its contract. Assumes nothing.
 use native.Mathlib.Omega.{arith}
-use borrow.Author.Rules.{rules}
 use Rattle.probe.specs.Numbers.{answer_room}
 use Rattle.probe.proofs.Fitting.{written_counted}
 use Rattle.probe.proofs.Telling.{schedule_short, schedule_told}

@@ -5,7 +5,6 @@ use mathlib.Core.List.{List}
 use Prim.Native.Nat.{ℕ, min, ◌≤◌}
 use native.Mathlib.Omega.{arith}
 use lib.ListN.{length}
-use borrow.Author.Rules.{rules}
 use Rattle.tables.specs.Limits.{most_threads}
 use Rattle.tables.specs.Rows.{total, first_row}
 use Rattle.verdicts.specs.Verdicts.{tell}

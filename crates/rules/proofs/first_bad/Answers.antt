@@ -1,10 +1,9 @@
-use mathlib.Core.Path.{◌≡◌, sym, ap, ◌∙◌}
-use mathlib.Core.Bool.{false, not}
-use Prim.Native.Nat.{ℕ, ◌-◌, ◌≤◌, ◌<◌}
+use mathlib.Core.Path.{sym, ap, ◌∙◌}
+use mathlib.Core.Bool.{not}
 use native.Mathlib.Omega.{arith}
 use borrow.Author.Count.{below_none, below_more}
 use borrow.Author.Rules.{rules}
-use Rattle.rules.specs.Rules.{keeps, first_bad_of}
+use Rattle.rules.specs.Rules.{first_bad_of}
 use Rattle.tables.proofs.Lowest.{lowest_is}
 use Rattle.rules.proofs.first_bad.Goals as goal
 

@@ -1,12 +1,8 @@
 -- `first_bad` meets its contract: every row that the loop has passed keeps the rules. Assumes nothing.
-use mathlib.Core.Path.{◌≡◌, sym, ap, ◌∙◌}
+use mathlib.Core.Path.{◌≡◌}
 use mathlib.Core.Bool.{false, not}
 use Prim.Native.Nat.{ℕ, ◌-◌, ◌≤◌, ◌<◌}
-use native.Mathlib.Omega.{arith}
-use borrow.Author.Count.{below_none, below_more}
-use borrow.Author.Rules.{rules}
-use Rattle.rules.specs.Rules.{keeps, first_bad_of}
-use Rattle.tables.proofs.Lowest.{lowest_is}
+use Rattle.rules.specs.Rules.{keeps}
 use Rattle.rules.proofs.first_bad.Given as goal
 
 abbrev pub invariant-loop-c : goal.invariant-loop-c

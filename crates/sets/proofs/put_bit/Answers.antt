@@ -1,5 +1,4 @@
 -- `put_bit` meets its contract, by the test. Assumes nothing.
-use borrow.Author.Rules.{rules}
 use Rattle.relation.proofs.Words.{one_shl}
 use Rattle.sets.specs.Words.{put_bit}
 use Rattle.sets.proofs.put_bit.Goals as goal

@@ -1,5 +1,4 @@
 -- `join` meets its contract, by its test. Assumes nothing.
-use borrow.Author.Rules.{rules}
 use borrow.Author.Tests.{eq-eqb, ne_eqb}
 use Rattle.barriers.proofs.barrier.join.Goals as goal
 

@@ -1,6 +1,5 @@
 -- `more` meets its contract, by its test. Assumes nothing.
 use mathlib.Core.Path.{sym}
-use borrow.Author.Rules.{rules}
 use Rattle.barriers.proofs.Registering.{counted_more, counted_top}
 use Rattle.barriers.proofs.counting.more.Goals as goal
 

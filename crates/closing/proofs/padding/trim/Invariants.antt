@@ -1,13 +1,7 @@
 -- The rows below i are trimmed. Assumes nothing.
 use Prim.Native.Nat.{◌≤◌, ◌-◌}
-use mathlib.Core.Path.{sym}
-use lib.ListN.{length}
 use Rattle.relation.specs.Table.{width}
-use Rattle.relation.proofs.Rooms.{last_word, row_in}
 use Rattle.closing.specs.Needs.{RowsAre, trimmed}
-use Rattle.closing.proofs.Rows.{rows_none, rows_all}
-use Rattle.closing.proofs.Trimming.{no_padding, trim_more}
-use borrow.Author.Rules.{rules}
 use Rattle.closing.proofs.padding.trim.Given as goal
 
 abbrev pub invariant-loop-i : goal.invariant-loop-i

@@ -1,10 +1,5 @@
-use Prim.Native.Nat.{◌≤◌, ◌-◌}
 use native.Mathlib.Omega.{arith}
-use Rattle.relation.specs.Bits.{bit_at}
-use Rattle.relation.specs.Chains.{rounds}
-use Rattle.relation.specs.Table.{width}
 use Rattle.relation.proofs.Rooms.{wide}
-use Rattle.closing.specs.Needs.{RowsAre}
 use Rattle.closing.proofs.Warshall.{round_first, round_next}
 use mathlib.Core.Path.{◌≡◌}
 use borrow.Author.Rules.{rules}

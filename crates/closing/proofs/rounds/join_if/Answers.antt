@@ -1,7 +1,6 @@
 -- Row i has bit k, and row k is joined; or it has not, and all is kept. Assumes nothing.
 use mathlib.Core.Path.{sym, ◌∙◌}
 use Rattle.closing.proofs.Warshall.{joined_if_lem, kept_if}
-use borrow.Author.Rules.{rules}
 use Rattle.closing.proofs.rounds.join_if.Goals as goal
 
 pub returns-then-related : goal.returns-then-related

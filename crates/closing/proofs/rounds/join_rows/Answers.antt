@@ -1,11 +1,6 @@
-use mathlib.Core.Path.{◌≡◌, refl, ◌∙◌}
-use mathlib.Core.List.{List}
-use Prim.Native.Nat.{ℕ, ◌≤◌, ◌-◌}
+use mathlib.Core.Path.{refl, ◌∙◌}
 use native.Mathlib.Omega.{arith}
-use lib.ListN.{length}
-use Rattle.relation.specs.Table.{width}
 use Rattle.relation.proofs.Rooms.{place_in}
-use Rattle.closing.specs.Needs.{RowsAre, joined_if}
 use Rattle.closing.proofs.Rows.{rows_all}
 use Rattle.closing.proofs.Warshall.{round_more}
 use borrow.Author.Rules.{rules}

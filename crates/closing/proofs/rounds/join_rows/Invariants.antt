@@ -1,15 +1,10 @@
 -- The round has come to row i. Assumes nothing.
-use mathlib.Core.Path.{◌≡◌, refl, ◌∙◌}
+use mathlib.Core.Path.{◌≡◌}
 use mathlib.Core.List.{List}
 use Prim.Native.Nat.{ℕ, ◌≤◌, ◌-◌}
-use native.Mathlib.Omega.{arith}
 use lib.ListN.{length}
 use Rattle.relation.specs.Table.{width}
-use Rattle.relation.proofs.Rooms.{place_in}
 use Rattle.closing.specs.Needs.{RowsAre, joined_if}
-use Rattle.closing.proofs.Rows.{rows_all}
-use Rattle.closing.proofs.Warshall.{round_more}
-use borrow.Author.Rules.{rules}
 use Rattle.closing.proofs.rounds.join_rows.Given as goal
 
 abbrev pub invariant-loop-i : goal.invariant-loop-i

@@ -2,7 +2,6 @@
 use native.Mathlib.Omega.{arith}
 use Rattle.closing.proofs.Rows.{rows_none}
 use Rattle.closing.proofs.Warshall.{round_self}
-use borrow.Author.Rules.{rules}
 use Rattle.closing.proofs.rounds.round.Goals as goal
 
 pub join_rows-requires-2 : goal.join_rows-requires-2

@@ -2,7 +2,6 @@
 use mathlib.Core.Path.{sym}
 use native.Mathlib.Omega.{arith}
 use lib.Seq.{length-take-le}
-use borrow.Author.Rules.{rules}
 use Rattle.tables.specs.Limits.{most_rows}
 use Rattle.desk.proofs.Texts.{refused_text, few_rows, numbers_fit, threads_fit, accepted_text}
 use Rattle.desk.proofs.conclusion.conclude.Goals as goal

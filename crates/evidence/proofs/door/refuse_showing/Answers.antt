@@ -1,7 +1,6 @@
 -- `refuse_showing` meets its contract: refused without evidence, or the evidence room is looked at. Assumes nothing.
 use mathlib.Core.Path.{◌∙◌}
 use native.Mathlib.Omega.{arith}
-use borrow.Author.Rules.{rules}
 use Rattle.tables.specs.Limits.{most_rows}
 use Rattle.verdicts.proofs.FirstTold.{said_zero}
 use Rattle.rooms.proofs.Refusals.{admitted}

@@ -1,6 +1,5 @@
 -- `review_evidence` meets its contract: refused before a room is touched; or reviewed, and shown. Assumes nothing.
 use mathlib.Core.Path.{◌∙◌}
-use borrow.Author.Rules.{rules}
 use Rattle.verdicts.proofs.FirstTold.{number_is, said_zero}
 use Rattle.evidence.proofs.Doors.{evidenced_refused, admissible, evidenced}
 use Rattle.evidence.proofs.door.review_evidence.Goals as goal

@@ -1,5 +1,4 @@
 -- `review_shown` meets its contract: reviewed, and shown. Assumes nothing.
-use borrow.Author.Rules.{rules}
 use Rattle.evidence.proofs.Shown.{showable}
 use Rattle.evidence.proofs.Doors.{shown_holds}
 use Rattle.evidence.proofs.door.review_shown.Goals as goal

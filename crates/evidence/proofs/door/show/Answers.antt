@@ -1,5 +1,4 @@
 -- `show` meets its contract, by the verdict's number. Assumes nothing.
-use borrow.Author.Rules.{rules}
 use Rattle.evidence.proofs.Filling.{show_one, show_all, show_ten, show_eleven, show_none}
 use Rattle.evidence.proofs.door.show.Goals as goal
 

@@ -1,6 +1,5 @@
 -- `write_at` meets its contract: the schedule is put into the part of the room that is lent. Assumes nothing.
 use native.Mathlib.Omega.{arith}
-use borrow.Author.Rules.{rules}
 use Rattle.tables.specs.Rows.{rows}
 use Rattle.relation.specs.Table.{related}
 use Rattle.evidence.proofs.Putting.{apart_few, wrote_few, wrote_at}

@@ -1,8 +1,4 @@
-use Prim.Native.Nat.{◌-◌}
-use borrow.Author.Rules.{rules}
-use Rattle.tables.specs.Rows.{rows}
-use Rattle.relation.specs.Table.{related}
-use Rattle.evidence.proofs.Putting.{Racing, racing_start, racing_long, racing_end, racing_fits, half_fits, racing_more}
+use Rattle.evidence.proofs.Putting.{racing_start, racing_long, racing_end, racing_fits, half_fits, racing_more}
 use Rattle.evidence.proofs.writing.write_races.Goals as goal
 
 pub loop-k-init : goal.loop-k-init

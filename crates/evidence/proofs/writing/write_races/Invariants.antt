@@ -1,9 +1,8 @@
 -- `write_races` meets its contract: the room has both ways of the pairs passed, and beyond them is as it was. Assumes nothing.
 use Prim.Native.Nat.{◌-◌}
-use borrow.Author.Rules.{rules}
 use Rattle.tables.specs.Rows.{rows}
 use Rattle.relation.specs.Table.{related}
-use Rattle.evidence.proofs.Putting.{Racing, racing_start, racing_long, racing_end, racing_fits, half_fits, racing_more}
+use Rattle.evidence.proofs.Putting.{Racing}
 use Rattle.evidence.proofs.writing.write_races.Given as goal
 
 abbrev pub invariant-loop-k : goal.invariant-loop-k

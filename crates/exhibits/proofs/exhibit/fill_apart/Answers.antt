@@ -1,5 +1,4 @@
 -- `fill_apart` meets its contract. Assumes nothing.
-use borrow.Author.Rules.{rules}
 use Rattle.exhibits.proofs.Apart.{fills}
 use Rattle.exhibits.proofs.exhibit.fill_apart.Goals as goal
 

@@ -1,7 +1,6 @@
 -- `put_exhibits` meets its contract, by the verdict's number. Assumes nothing.
 use mathlib.Core.Bool.{not}
 use mathlib.Core.Path.{sym, ap, ◌∙◌}
-use borrow.Author.Rules.{rules}
 use Rattle.printing.proofs.Placing.{puts_none}
 use Rattle.wording.proofs.Along.{puts_as}
 use Rattle.exhibits.proofs.Doors.{said_admitted, said_refused, roomy, exhibited_none, exhibited_all, exhibits_ten, exhibits_eleven, exhibits_none}

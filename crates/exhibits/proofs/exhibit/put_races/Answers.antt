@@ -1,14 +1,8 @@
-use mathlib.Core.Path.{◌≡◌, sym, ◌∙◌}
-use Prim.Native.Nat.{◌-◌, ◌≤◌}
 use native.Mathlib.Omega.{arith}
-use lib.ListN.{length, take, drop, length-map}
 use borrow.Author.Rules.{rules}
-use Rattle.tables.specs.Rows.{rows}
-use Rattle.relation.specs.Table.{related}
 use Rattle.sheet.specs.Sheet.{most_kept}
 use Rattle.printing.proofs.Placing.{puts_on}
-use Rattle.exhibits.specs.Exhibits.{race_exhibits}
-use Rattle.wording.proofs.Along.{Along, along_none, along_more, along_end, along_long}
+use Rattle.wording.proofs.Along.{along_none, along_more, along_end, along_long}
 use Rattle.exhibits.proofs.Races.{races_next, races_end}
 use Rattle.exhibits.proofs.exhibit.put_races.Goals as goal
 

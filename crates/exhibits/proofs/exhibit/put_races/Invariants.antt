@@ -1,16 +1,11 @@
 -- `put_races` meets its contract: after k turns both ways of the first k pairs are put. Assumes nothing.
-use mathlib.Core.Path.{◌≡◌, sym, ◌∙◌}
+use mathlib.Core.Path.{◌≡◌}
 use Prim.Native.Nat.{◌-◌, ◌≤◌}
-use native.Mathlib.Omega.{arith}
-use lib.ListN.{length, take, drop, length-map}
-use borrow.Author.Rules.{rules}
+use lib.ListN.{length, take, drop}
 use Rattle.tables.specs.Rows.{rows}
 use Rattle.relation.specs.Table.{related}
-use Rattle.sheet.specs.Sheet.{most_kept}
-use Rattle.printing.proofs.Placing.{puts_on}
 use Rattle.exhibits.specs.Exhibits.{race_exhibits}
-use Rattle.wording.proofs.Along.{Along, along_none, along_more, along_end, along_long}
-use Rattle.exhibits.proofs.Races.{races_next, races_end}
+use Rattle.wording.proofs.Along.{Along}
 use Rattle.exhibits.proofs.exhibit.put_races.Given as goal
 
 abbrev pub invariant-loop-k : goal.invariant-loop-k

@@ -1,5 +1,4 @@
 -- `put_reuse` meets its contract: what the schedule shows, and the schedule from the front of its room. Assumes nothing.
-use borrow.Author.Rules.{rules}
 use Rattle.exhibits.specs.Exhibits.{reuse_exhibit}
 use Rattle.exhibits.proofs.Apart.{full_room, front_fits, front_long, puts_shown}
 use Rattle.exhibits.proofs.exhibit.put_reuse.Goals as goal

@@ -1,5 +1,4 @@
 -- `put_way` meets its contract: the line, and the schedule from the front of its room. Assumes nothing.
-use borrow.Author.Rules.{rules}
 use Rattle.exhibits.specs.Exhibits.{order_exhibit}
 use Rattle.exhibits.proofs.Apart.{full_room, front_fits, front_long, puts_below}
 use Rattle.exhibits.proofs.exhibit.put_way.Goals as goal

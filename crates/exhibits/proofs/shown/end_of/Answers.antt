@@ -1,5 +1,4 @@
 -- `end_of` meets its contract. Assumes nothing.
-use borrow.Author.Rules.{rules}
 use Rattle.exhibits.proofs.Showing.{ended}
 use Rattle.exhibits.proofs.shown.end_of.Goals as goal
 

@@ -1,12 +1,9 @@
 use mathlib.Core.Path.{ap}
 use mathlib.Core.Bool.{not}
-use Prim.Native.Nat.{◌-◌}
 use borrow.Author.Rules.{rules}
 use borrow.Author.Tests.{eq-eqb}
 use Rattle.tables.specs.Limits.{most_rows}
-use Rattle.rooms.specs.Rooms.{number_at}
-use Rattle.tables.proofs.Scans.{Scanned, scan_none, scan_more}
-use Rattle.exhibits.specs.Shown.{differs}
+use Rattle.tables.proofs.Scans.{scan_none, scan_more}
 use Rattle.exhibits.proofs.Showing.{other_found, other_none}
 use Rattle.exhibits.proofs.shown.other_generation.Goals as goal
 

@@ -1,6 +1,5 @@
 -- `shown_by` meets its contract, by how the schedule ended. Assumes nothing.
 use mathlib.Core.Path.{◌∙◌}
-use borrow.Author.Rules.{rules}
 use Rattle.exhibits.proofs.Showing.{shows_mismatch, shows_deadlock, shows_set, shows_other}
 use Rattle.exhibits.proofs.shown.shown_by.Goals as goal
 

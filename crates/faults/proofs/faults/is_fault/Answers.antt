@@ -1,5 +1,4 @@
 -- Each kind has its test. Assumes nothing.
-use borrow.Author.Rules.{rules}
 use Rattle.faults.proofs.faults.is_fault.Goals as goal
 
 pub returns-in-Reuse : goal.returns-in-Reuse

@@ -1,8 +1,7 @@
 -- The tests, one after the other. Assumes nothing.
 use mathlib.Core.Path.{sym, ◌∙◌}
-use borrow.Author.Tests.{lt-ltb, le-ltb, eq-eqb, ne_eqb, not-true, not-false}
+use borrow.Author.Tests.{lt-ltb, le-ltb, eq-eqb, ne_eqb}
 use Rattle.faults.specs.Tests.{race_by}
-use borrow.Author.Rules.{rules}
 use Rattle.faults.proofs.faults.is_race.Goals as goal
 
 pub returns-then-x-y : goal.returns-then-x-y

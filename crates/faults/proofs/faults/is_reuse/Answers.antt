@@ -1,8 +1,7 @@
 -- The tests, one after the other. Assumes nothing.
 use mathlib.Core.Path.{sym, ◌∙◌}
-use borrow.Author.Tests.{le-leb, lt-leb, not-true, not-false}
+use borrow.Author.Tests.{le-leb, lt-leb}
 use Rattle.faults.specs.Tests.{reuse_by}
-use borrow.Author.Rules.{rules}
 use Rattle.faults.proofs.faults.is_reuse.Goals as goal
 
 pub returns-then-not-succeeds : goal.returns-then-not-succeeds

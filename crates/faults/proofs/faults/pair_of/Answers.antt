@@ -1,5 +1,4 @@
 -- Each kind has its order. Assumes nothing.
-use borrow.Author.Rules.{rules}
 use Rattle.faults.proofs.faults.pair_of.Goals as goal
 
 pub returns-in-Reuse : goal.returns-in-Reuse

@@ -2,7 +2,6 @@
 use mathlib.Core.Bool.{and-false, and-true}
 use borrow.Author.Tests.{eq-eqb, ne_eqb}
 use Rattle.faults.specs.Tests.{succeeds_by}
-use borrow.Author.Rules.{rules}
 use Rattle.faults.proofs.faults.succeeds.Goals as goal
 
 pub returns-then-c1-c2 : goal.returns-then-c1-c2

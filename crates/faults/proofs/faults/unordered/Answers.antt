@@ -1,6 +1,5 @@
 -- One question, then the other. Assumes nothing.
 use mathlib.Core.Path.{sym, ◌∙◌}
-use borrow.Author.Rules.{rules}
 use Rattle.faults.proofs.faults.unordered.Goals as goal
 
 pub returns-then-related : goal.returns-then-related

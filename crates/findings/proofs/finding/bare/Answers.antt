@@ -1,5 +1,4 @@
 -- `bare` meets its contract: an empty sheet is that of no pairs. Assumes nothing.
-use borrow.Author.Rules.{rules}
 use Rattle.findings.proofs.finding.bare.Goals as goal
 
 pub returns : goal.returns

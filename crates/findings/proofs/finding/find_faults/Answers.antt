@@ -1,6 +1,5 @@
 -- `find_faults` meets its contract: refused, or looked over. Assumes nothing.
 use mathlib.Core.Path.{◌∙◌}
-use borrow.Author.Rules.{rules}
 use Rattle.verdicts.proofs.FirstTold.{number_is, said_zero}
 use Rattle.rooms.proofs.Refusals.{ample}
 use Rattle.findings.proofs.Founds.{finds_refused, finds_looked}

@@ -1,5 +1,4 @@
 -- The sheet of the search, and what it tells. Assumes nothing.
-use borrow.Author.Rules.{rules}
 use Rattle.findings.proofs.finding.find_kind.Goals as goal
 
 pub returns : goal.returns

@@ -1,5 +1,4 @@
 -- `look` meets its contract: the reuse faults, or where there is none the races. Assumes nothing.
-use borrow.Author.Rules.{rules}
 use Rattle.findings.proofs.Looks.{looked_reuse, looked_race}
 use Rattle.findings.proofs.finding.look.Goals as goal
 

@@ -2,7 +2,6 @@
 use Prim.Native.Nat.{ℕ}
 use native.Mathlib.Omega.{arith}
 use lib.ListN.{length-replicate}
-use borrow.Author.Rules.{rules}
 use Rattle.tables.specs.Limits.{most_rows}
 use Rattle.tables.proofs.Filling.{headed}
 use Rattle.findings.proofs.Looks.{looked_over}

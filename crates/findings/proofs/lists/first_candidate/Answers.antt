@@ -3,7 +3,6 @@ use mathlib.Core.Path.{sym, subst, ◌∙◌}
 use Prim.Native.Nat.{ℕ}
 use native.Mathlib.Omega.{arith}
 use lib.ListN.{get_or}
-use borrow.Author.Tests.{not-true, not-false}
 use Rattle.tables.specs.Limits.{most_rows}
 use Rattle.faults.specs.declared.faults.Fault.TheVariants.{Reuse}
 use Rattle.findings.specs.Needs.{Next}

@@ -1,8 +1,7 @@
 use mathlib.Core.Path.{◌≡◌, sym, subst, ◌∙◌}
-use Prim.Native.Nat.{◌+◌, ◌-◌, ◌≤◌}
+use Prim.Native.Nat.{◌+◌, ◌-◌}
 use native.Mathlib.Omega.{arith}
 use Rattle.tables.specs.Limits.{most_rows}
-use Rattle.tables.specs.Rows.{rows}
 use Rattle.findings.specs.Needs.{Lists}
 use Rattle.findings.proofs.Listing.{lists_none, lists_passed, lists_more}
 use borrow.Author.Rules.{rules}

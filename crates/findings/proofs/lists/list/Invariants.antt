@@ -1,12 +1,7 @@
 -- The commands from c on are listed. Assumes nothing.
-use mathlib.Core.Path.{◌≡◌, sym, subst, ◌∙◌}
-use Prim.Native.Nat.{◌+◌, ◌-◌, ◌≤◌}
-use native.Mathlib.Omega.{arith}
-use Rattle.tables.specs.Limits.{most_rows}
+use Prim.Native.Nat.{◌≤◌}
 use Rattle.tables.specs.Rows.{rows}
 use Rattle.findings.specs.Needs.{Lists}
-use Rattle.findings.proofs.Listing.{lists_none, lists_passed, lists_more}
-use borrow.Author.Rules.{rules}
 use Rattle.findings.proofs.lists.list.Given as goal
 
 abbrev pub invariant-loop-c : goal.invariant-loop-c

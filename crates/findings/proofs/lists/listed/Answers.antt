@@ -1,5 +1,4 @@
 -- Each kind has its test. Assumes nothing.
-use borrow.Author.Rules.{rules}
 use Rattle.findings.proofs.lists.listed.Goals as goal
 
 pub returns-in-Reuse : goal.returns-in-Reuse

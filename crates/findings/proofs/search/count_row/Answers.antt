@@ -1,7 +1,6 @@
 use mathlib.Core.Path.{◌≡◌, sym, ap, ◌∙◌}
-use mathlib.Core.Logic.{⊎_elim}
 use mathlib.Core.List.{List}
-use Prim.Native.Nat.{◌-◌, min}
+use Prim.Native.Nat.{min}
 use native.Mathlib.Omega.{arith}
 use lib.ListN.{length}
 use Rattle.tables.specs.Limits.{most_rows}
@@ -9,7 +8,7 @@ use Rattle.tables.specs.Rows.{rows}
 use Rattle.sheet.specs.declared.Pair.{Pair}
 use Rattle.faults.specs.Faults.{pair_of}
 use Rattle.findings.proofs.Searching.{one_counted}
-use Rattle.findings.proofs.Listing.{below, below_few, OnList, walk_begun, walk_on}
+use Rattle.findings.proofs.Listing.{below, below_few, walk_begun, walk_on}
 use borrow.Author.Rules.{rules}
 use Rattle.findings.proofs.search.count_row.Goals as goal
 use Rattle.findings.proofs.search.count_row.Goals.{then-fault_at, else-fault_at}
@@ -41,7 +40,7 @@ loop-j-preserved c =
     let W = walk_on a.heads.now a.commands.now a.generations.now a.relation.now a.fault a.i c.requires.lists l.j c.loop-j-test.true l.invariant.1 in
     let e = sym c.fault_at.ensures in (
       elim c.if-fault_at.branch [
-          then-fault_at w ↦ w.count-is ∙ one_counted (below a.heads.now a.commands.now a.generations.now a.relation.now a.fault a.i l.j) _ (pair_of a.fault a.i l.j) l.invariant.0 (W.more (e ∙ w.if-fault_at.true))
+        | then-fault_at w ↦ w.count-is ∙ one_counted (below a.heads.now a.commands.now a.generations.now a.relation.now a.fault a.i l.j) _ (pair_of a.fault a.i l.j) l.invariant.0 (W.more (e ∙ w.if-fault_at.true))
         | else-fault_at w ↦ w.count-is ∙ l.invariant.0 ∙ ap (λ (ps : List Pair). length ps) (sym (W.same (e ∙ w.if-fault_at.false)))
       ],
       W.on,

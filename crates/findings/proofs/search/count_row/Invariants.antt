@@ -1,17 +1,9 @@
 -- The faults with the numbers below j are counted, and j is in the list. Assumes nothing.
-use mathlib.Core.Path.{◌≡◌, sym, ap, ◌∙◌}
-use mathlib.Core.Logic.{⊎_elim}
-use mathlib.Core.List.{List}
-use Prim.Native.Nat.{◌-◌, min}
-use native.Mathlib.Omega.{arith}
+use mathlib.Core.Path.{◌≡◌}
+use Prim.Native.Nat.{◌-◌}
 use lib.ListN.{length}
-use Rattle.tables.specs.Limits.{most_rows}
 use Rattle.tables.specs.Rows.{rows}
-use Rattle.sheet.specs.declared.Pair.{Pair}
-use Rattle.faults.specs.Faults.{pair_of}
-use Rattle.findings.proofs.Searching.{one_counted}
-use Rattle.findings.proofs.Listing.{below, below_few, OnList, walk_begun, walk_on}
-use borrow.Author.Rules.{rules}
+use Rattle.findings.proofs.Listing.{below, OnList}
 use Rattle.findings.proofs.search.count_row.Given as goal
 
 abbrev pub invariant-loop-j : goal.invariant-loop-j

@@ -1,6 +1,5 @@
 use mathlib.Core.Path.{◌≡◌, sym, ap, ◌∙◌}
-use mathlib.Core.Logic.{⊎_elim}
-use Prim.Native.Nat.{◌-◌, min}
+use Prim.Native.Nat.{min}
 use native.Mathlib.Omega.{arith}
 use Rattle.tables.specs.Limits.{most_rows}
 use Rattle.tables.specs.Rows.{rows}
@@ -9,7 +8,7 @@ use Rattle.sheet.specs.Needs.{add_all}
 use Rattle.sheet.proofs.Sheets.{added_full}
 use Rattle.faults.specs.Faults.{pair_of}
 use Rattle.findings.proofs.Searching.{none_added, one_added}
-use Rattle.findings.proofs.Listing.{below, OnList, walk_begun, walk_on, total_low}
+use Rattle.findings.proofs.Listing.{below, walk_begun, walk_on, total_low}
 use borrow.Author.Rules.{rules}
 use Rattle.findings.proofs.search.keep_row.Goals as goal
 use Rattle.findings.proofs.search.keep_row.Goals.{then-fault_at+then-found-lt-KEPT, then-fault_at+else-found-lt-KEPT, else-fault_at}
@@ -45,9 +44,9 @@ loop-j-preserved c =
     let e = sym c.fault_at.ensures in
     let few = total_low a.heads.now a.commands.now a.generations.now a.relation.now a.fault a.i a.sheet l.found l.j l.invariant.0 in (
       elim c.if-fault_at.branch [
-          then-fault_at+then-found-lt-KEPT w ↦ w.found-is ∙ w.with_pair-found.ensures ∙ ap (added l.found) w.pair_of.ensures ∙ one_added (below a.heads.now a.commands.now a.generations.now a.relation.now a.fault a.i l.j) _ p a.sheet l.invariant.0 (W.more (e ∙ w.if-fault_at.true))
+        | then-fault_at+then-found-lt-KEPT w ↦ w.found-is ∙ w.with_pair-found.ensures ∙ ap (added l.found) w.pair_of.ensures ∙ one_added (below a.heads.now a.commands.now a.generations.now a.relation.now a.fault a.i l.j) _ p a.sheet l.invariant.0 (W.more (e ∙ w.if-fault_at.true))
         | then-fault_at+else-found-lt-KEPT w ↦ w.found-is ∙ added_full l.found p w.if-found-lt-KEPT.false (omega (arith, few, c.requires.0, h, c.requires.1.lists.few))
-          ∙ one_added (below a.heads.now a.commands.now a.generations.now a.relation.now a.fault a.i l.j) _ p a.sheet l.invariant.0 (W.more (e ∙ w.if-fault_at.true))
+            ∙ one_added (below a.heads.now a.commands.now a.generations.now a.relation.now a.fault a.i l.j) _ p a.sheet l.invariant.0 (W.more (e ∙ w.if-fault_at.true))
         | else-fault_at w ↦ w.found-is ∙ l.invariant.0 ∙ ap (add_all a.sheet) (sym (W.same (e ∙ w.if-fault_at.false)))
       ],
       W.on,

@@ -1,11 +1,9 @@
 use mathlib.Core.Path.{◌≡◌, ◌∙◌}
-use mathlib.Core.Logic.{⊎_elim}
-use Prim.Native.Nat.{◌≤◌, ◌-◌}
 use native.Mathlib.Omega.{arith}
 use Rattle.tables.specs.Limits.{most_rows}
 use Rattle.tables.specs.Rows.{rows}
-use Rattle.sheet.specs.Sheet.{most_kept, sheet_of}
-use Rattle.faults.specs.Faults.{pair_of, all_rows}
+use Rattle.sheet.specs.Sheet.{most_kept}
+use Rattle.faults.specs.Faults.{pair_of}
 use Rattle.findings.specs.Needs.{is_fault_at}
 use Rattle.findings.proofs.Searching.{all_begun, total_few, row_empty, row_kept, row_counted}
 use borrow.Author.Rules.{rules}
@@ -45,7 +43,7 @@ loop-i-preserved c =
     let few = c.requires.1.few in (
       search rules,
       elim c.if-n-ne0.branch [
-          then-n-ne0+then-found-lt-KEPT w ↦ w.found-is ∙ row_kept (is_fault_at a.heads.now a.commands.now a.generations.now a.relation.now a.fault) (pair_of a.fault) (rows a.commands.now) l.found w.keep_row-found.result l.i n.result few low l.invariant.1 n.ensures w.keep_row-found.ensures
+        | then-n-ne0+then-found-lt-KEPT w ↦ w.found-is ∙ row_kept (is_fault_at a.heads.now a.commands.now a.generations.now a.relation.now a.fault) (pair_of a.fault) (rows a.commands.now) l.found w.keep_row-found.result l.i n.result few low l.invariant.1 n.ensures w.keep_row-found.ensures
         | then-n-ne0+else-found-lt-KEPT w ↦ w.found-is ∙ row_counted (is_fault_at a.heads.now a.commands.now a.generations.now a.relation.now a.fault) (pair_of a.fault) (rows a.commands.now) l.found l.found l.i n.result few low l.invariant.1 n.ensures w.if-found-lt-KEPT.false
         | else-n-ne0 w ↦ w.found-is ∙ row_empty (is_fault_at a.heads.now a.commands.now a.generations.now a.relation.now a.fault) (pair_of a.fault) (rows a.commands.now) l.found l.found l.i n.result few low l.invariant.1 n.ensures w.if-n-ne0.false
       ],

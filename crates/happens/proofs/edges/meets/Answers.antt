@@ -1,6 +1,5 @@
 -- The four tests, in one conjunction. Assumes nothing.
 use mathlib.Core.Bool.{and_assoc}
-use borrow.Author.Rules.{rules}
 use Rattle.happens.proofs.edges.meets.Goals as goal
 
 pub returns : goal.returns

@@ -4,7 +4,6 @@ use lib.Dec.{ltb}
 use mathlib.Core.Bool.{and-false}
 use borrow.Author.Tests.{lt-ltb, le-ltb}
 use Rattle.tables.specs.Rows.{rows}
-use borrow.Author.Rules.{rules}
 use Rattle.happens.proofs.edges.meets_row.Goals as goal
 
 pub returns-then-m-i : goal.returns-then-m-i

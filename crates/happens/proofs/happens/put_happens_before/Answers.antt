@@ -1,6 +1,5 @@
 -- `put_happens_before` meets its contract: refused before the room is touched, or what is listed reaches as far as happens-before. Assumes nothing.
 use mathlib.Core.Path.{refl, sym, ◌∙◌}
-use borrow.Author.Rules.{rules}
 use Rattle.verdicts.proofs.Verdicts.{zero_told}
 use Rattle.verdicts.proofs.FirstTold.{number_is, said_zero}
 use Rattle.rooms.proofs.Refusals.{ample}

@@ -32,7 +32,6 @@ slice_bounds-put_reach-end c =
     let k = c.put_pairs-end in
     sym (length-take-le (k.result * 2) _ (omega (arith, k.ensures.few, k.ensures.len, c.requires.few_rows)))
 
-
 pub returns : goal.returns
 unfolding most_rows
 returns c =

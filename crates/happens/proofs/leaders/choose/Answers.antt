@@ -1,12 +1,7 @@
-use mathlib.Core.Logic.{⊎_elim}
-use Prim.Native.Nat.{◌≤◌, ◌-◌}
-use mathlib.Core.Path.{◌≡◌, sym, ◌∙◌}
-use lib.ListN.{length, length-set}
+use mathlib.Core.Path.{sym, ◌∙◌}
 use native.Mathlib.Omega.{arith}
 use borrow.Author.Tests.{ne_eqb}
 use Rattle.tables.specs.Limits.{most_rows, barriers}
-use Rattle.tables.specs.Rows.{rows}
-use Rattle.happens.specs.Needs.{seats, Seated}
 use Rattle.happens.proofs.Leading.{seated_more, seated_on}
 use borrow.Author.Rules.{rules}
 use Rattle.happens.proofs.leaders.choose.Goals as goal
@@ -22,7 +17,7 @@ loop-c-preserved c =
       search rules,
       omega (arith, c.if-commands-c-eq-SYNC.auto.leaders, l.invariant.1),
       elim c.if-commands-c-eq-SYNC.branch [
-          then-commands-c-eq-SYNC w ↦ rw (w.leaders-is, w.seat-at.ensures.0) (seated_more c.args.commands.now c.args.generations.now l.leaders l.c c.loop-c-test.true (omega arith) l.invariant.2)
+        | then-commands-c-eq-SYNC w ↦ rw (w.leaders-is, w.seat-at.ensures.0) (seated_more c.args.commands.now c.args.generations.now l.leaders l.c c.loop-c-test.true (omega arith) l.invariant.2)
         | else-commands-c-eq-SYNC w ↦ rw w.leaders-is (seated_on c.args.commands.now c.args.generations.now l.leaders l.c (ne_eqb _ _ w.if-commands-c-eq-SYNC.false) l.invariant.2)
       ],
     )

@@ -1,8 +1,6 @@
 use mathlib.Core.Path.{◌≡◌, refl, sym, ◌∙◌}
-use Prim.Native.Nat.{◌≤◌}
 use native.Mathlib.Omega.{arith}
-use Rattle.tables.specs.Rows.{rows}
-use Rattle.happens.specs.Needs.{does_meet_row, last_below, last_met_of}
+use Rattle.happens.specs.Needs.{last_below}
 use Rattle.happens.proofs.Leading.{last_here, last_on}
 use borrow.Author.Rules.{rules}
 use Rattle.happens.proofs.leaders.last_met.Goals as goal

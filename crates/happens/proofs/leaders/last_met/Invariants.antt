@@ -1,11 +1,8 @@
 -- No sync from j on is met. Assumes nothing.
-use mathlib.Core.Path.{◌≡◌, refl, sym, ◌∙◌}
+use mathlib.Core.Path.{◌≡◌}
 use Prim.Native.Nat.{◌≤◌}
-use native.Mathlib.Omega.{arith}
 use Rattle.tables.specs.Rows.{rows}
 use Rattle.happens.specs.Needs.{does_meet_row, last_below, last_met_of}
-use Rattle.happens.proofs.Leading.{last_here, last_on}
-use borrow.Author.Rules.{rules}
 use Rattle.happens.proofs.leaders.last_met.Given as goal
 
 abbrev pub invariant-loop-j : goal.invariant-loop-j

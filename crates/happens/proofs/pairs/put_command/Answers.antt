@@ -1,7 +1,6 @@
 -- Three pairs, each as its test found it. Assumes nothing.
 use mathlib.Core.Path.{sym, ◌∙◌}
 use native.Mathlib.Omega.{arith}
-use borrow.Author.Rules.{rules}
 use Rattle.tables.specs.Rows.{rows}
 use Rattle.happens.proofs.Leading.{meets_parts}
 use Rattle.happens.proofs.Drawing.{adds_join, adds_map, follows_low, three_draws, draws_three}

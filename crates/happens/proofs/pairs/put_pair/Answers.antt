@@ -2,7 +2,6 @@
 use Prim.Native.Nat.{◌*◌}
 use lib.ListN.{length-set}
 use native.Mathlib.Omega.{arith}
-use borrow.Author.Tests.{not-true, not-false}
 use Rattle.tables.specs.Limits.{most_rows}
 use Rattle.happens.proofs.Drawing.{adds_not, adds_one}
 use borrow.Author.Rules.{rules}

@@ -1,10 +1,7 @@
 use mathlib.Core.Path.{◌≡◌}
-use Prim.Native.Nat.{◌*◌, ◌-◌, ◌≤◌, ◌<◌}
-use lib.ListN.{length}
 use native.Mathlib.Omega.{arith}
 use Rattle.tables.specs.Limits.{most_rows}
 use Rattle.tables.specs.Rows.{rows}
-use Rattle.happens.specs.Needs.{DrawsBelow, Adds}
 use Rattle.happens.proofs.Drawing.{adds_none, adds_join, adds_map, below_more, more_below}
 use borrow.Author.Rules.{rules}
 use Rattle.happens.proofs.pairs.put_pairs.Goals as goal

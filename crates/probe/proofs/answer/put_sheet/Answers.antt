@@ -1,10 +1,9 @@
-use mathlib.Core.Path.{◌≡◌, refl}
-use Prim.Native.Nat.{◌≤◌, ◌-◌}
+use mathlib.Core.Path.{refl}
 use native.Mathlib.Omega.{arith}
-use lib.ListN.{length, length-set}
+use lib.ListN.{length-set}
 use Rattle.sheet.specs.Sheet.{most_kept}
 use Rattle.probe.specs.Numbers.{answer_room}
-use Rattle.probe.proofs.Putting.{Putting, putting_none, putting_more, putting_done}
+use Rattle.probe.proofs.Putting.{putting_none, putting_more, putting_done}
 use borrow.Author.Rules.{rules}
 use Rattle.probe.proofs.answer.put_sheet.Goals as goal
 

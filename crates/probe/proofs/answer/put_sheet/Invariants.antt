@@ -1,12 +1,8 @@
 -- `put_sheet` meets its contract: the numbers of the first i pairs are in the room. Assumes nothing.
-use mathlib.Core.Path.{◌≡◌, refl}
+use mathlib.Core.Path.{◌≡◌}
 use Prim.Native.Nat.{◌≤◌, ◌-◌}
-use native.Mathlib.Omega.{arith}
-use lib.ListN.{length, length-set}
-use Rattle.sheet.specs.Sheet.{most_kept}
-use Rattle.probe.specs.Numbers.{answer_room}
-use Rattle.probe.proofs.Putting.{Putting, putting_none, putting_more, putting_done}
-use borrow.Author.Rules.{rules}
+use lib.ListN.{length}
+use Rattle.probe.proofs.Putting.{Putting}
 use Rattle.probe.proofs.answer.put_sheet.Given as goal
 
 abbrev pub invariant-loop-i : goal.invariant-loop-i

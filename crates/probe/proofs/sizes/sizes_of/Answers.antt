@@ -1,5 +1,4 @@
 -- `sizes_of` meets its contract: a refusal has none of either. Assumes nothing.
-use borrow.Author.Rules.{rules}
 use Rattle.probe.proofs.sizes.sizes_of.Goals as goal
 
 pub returns-in-Unfit : goal.returns-in-Unfit

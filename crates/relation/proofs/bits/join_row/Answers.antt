@@ -1,6 +1,5 @@
-use Prim.Native.Nat.{◌≤◌, ◌-◌}
 use native.Mathlib.Omega.{arith}
-use Rattle.relation.proofs.Rows.{Half, half_none, half_more, half_all}
+use Rattle.relation.proofs.Rows.{half_none, half_more, half_all}
 use borrow.Author.Rules.{rules}
 use Rattle.relation.proofs.bits.join_row.Goals as goal
 

@@ -1,8 +1,6 @@
 -- The first v words are joined. Assumes nothing.
 use Prim.Native.Nat.{◌≤◌, ◌-◌}
-use native.Mathlib.Omega.{arith}
-use Rattle.relation.proofs.Rows.{Half, half_none, half_more, half_all}
-use borrow.Author.Rules.{rules}
+use Rattle.relation.proofs.Rows.{Half}
 use Rattle.relation.proofs.bits.join_row.Given as goal
 
 abbrev pub invariant-loop-v : goal.invariant-loop-v

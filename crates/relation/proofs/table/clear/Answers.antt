@@ -1,8 +1,8 @@
-use Prim.Native.Nat.{ℕ, ◌≤◌, ◌-◌}
+use Prim.Native.Nat.{ℕ, ◌≤◌}
 use native.Mathlib.Omega.{arith}
 use mathlib.Core.Path.{◌≡◌, refl, ap, ◌∙◌}
-use mathlib.Core.List.{List, ◌++◌}
-use lib.ListN.{length, replicate, drop, set}
+use mathlib.Core.List.{List}
+use lib.ListN.{length, set}
 use borrow.Author.Fill.{fill_none, fill_more}
 use Rattle.relation.specs.Table.{words}
 use Rattle.relation.proofs.Rooms.{cleared, written, refused}

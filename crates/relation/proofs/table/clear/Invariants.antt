@@ -1,13 +1,8 @@
 -- The first p words are zeros. Assumes nothing.
-use Prim.Native.Nat.{ℕ, ◌≤◌, ◌-◌}
-use native.Mathlib.Omega.{arith}
-use mathlib.Core.Path.{◌≡◌, refl, ap, ◌∙◌}
-use mathlib.Core.List.{List, ◌++◌}
-use lib.ListN.{length, replicate, drop, set}
-use borrow.Author.Fill.{fill_none, fill_more}
-use Rattle.relation.specs.Table.{words}
-use Rattle.relation.proofs.Rooms.{cleared, written, refused}
-use borrow.Author.Rules.{rules}
+use Prim.Native.Nat.{◌≤◌, ◌-◌}
+use mathlib.Core.Path.{◌≡◌}
+use mathlib.Core.List.{◌++◌}
+use lib.ListN.{length, replicate, drop}
 use Rattle.relation.proofs.table.clear.Given as goal
 
 abbrev pub invariant-loop-p : goal.invariant-loop-p

@@ -1,6 +1,4 @@
-use Prim.Native.Nat.{◌≤◌, ◌-◌}
-use borrow.Author.Tests.{not-true, not-false}
-use Rattle.relation.proofs.Selves.{Diagonal, diagonal_none, diagonal_more, diagonal_all, cleared_fits, still_fits, not_cleared}
+use Rattle.relation.proofs.Selves.{diagonal_none, diagonal_more, diagonal_all, cleared_fits, still_fits, not_cleared}
 use borrow.Author.Rules.{rules}
 use Rattle.relation.proofs.table.diagonal.Goals as goal
 

@@ -1,8 +1,6 @@
 -- The numbers below i are related to themselves. Assumes nothing.
 use Prim.Native.Nat.{◌≤◌, ◌-◌}
-use borrow.Author.Tests.{not-true, not-false}
-use Rattle.relation.proofs.Selves.{Diagonal, diagonal_none, diagonal_more, diagonal_all, cleared_fits, still_fits, not_cleared}
-use borrow.Author.Rules.{rules}
+use Rattle.relation.proofs.Selves.{Diagonal}
 use Rattle.relation.proofs.table.diagonal.Given as goal
 
 abbrev pub invariant-loop-i : goal.invariant-loop-i

@@ -1,6 +1,5 @@
 -- The tests in the definition's order. Assumes nothing.
 use borrow.Author.Tests.{lt-leb, le-leb, lt-ltb, le-ltb}
-use borrow.Author.Rules.{rules}
 use Rattle.relation.proofs.table.has_place.Goals as goal
 
 pub returns-then-n-table_words : goal.returns-then-n-table_words

@@ -3,7 +3,6 @@ use mathlib.Core.Path.{refl, sym, ◌∙◌}
 use lib.ListN.{length}
 use Rattle.relation.proofs.Truth.{clashing}
 use Rattle.relation.proofs.Rooms.{place, row_in}
-use borrow.Author.Rules.{rules}
 use Rattle.relation.proofs.table.join.Goals as goal
 
 pub join_row-requires : goal.join_row-requires

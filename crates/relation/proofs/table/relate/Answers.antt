@@ -3,7 +3,6 @@ use mathlib.Core.Path.{refl, sym, ◌∙◌}
 use lib.ListN.{length}
 use Rattle.relation.proofs.Truth.{clashing}
 use Rattle.relation.proofs.Rooms.{bit_in}
-use borrow.Author.Rules.{rules}
 use Rattle.relation.proofs.table.relate.Goals as goal
 
 pub set_bit-requires : goal.set_bit-requires

@@ -3,7 +3,6 @@ use mathlib.Core.Path.{sym, ◌∙◌}
 use lib.ListN.{length}
 use Rattle.relation.specs.Table.{related}
 use Rattle.relation.proofs.Rooms.{bit_in}
-use borrow.Author.Rules.{rules}
 use Rattle.relation.proofs.table.related.Goals as goal
 
 pub bit-requires : goal.bit-requires

@@ -1,7 +1,6 @@
 -- Assumes nothing.
 use mathlib.Core.Path.{refl}
 use Rattle.relation.specs.Table.{width}
-use borrow.Author.Rules.{rules}
 use Rattle.relation.proofs.table.row_words.Goals as goal
 
 pub returns : goal.returns

@@ -1,6 +1,5 @@
 -- `conclude` meets its contract: 5 and 7 stand before 6, 8 and 9. Assumes nothing.
 use mathlib.Core.Path.{◌∙◌}
-use borrow.Author.Rules.{rules}
 use Rattle.steps.specs.Ending.{ended, judged}
 use Rattle.verdicts.proofs.FirstTold.{said_first, said_second}
 use Rattle.replay.proofs.offered.conclude.Goals as goal

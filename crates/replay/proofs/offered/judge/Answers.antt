@@ -1,6 +1,5 @@
 -- `judge` meets its contract: the schedule is played from the start, and what it came to is judged. Assumes nothing.
 use mathlib.Core.Path.{ap, ◌∙◌}
-use borrow.Author.Rules.{rules}
 use Rattle.steps.specs.Going.{go_on, played}
 use Rattle.replay.proofs.Told.{judges_replayed}
 use Rattle.replay.proofs.offered.judge.Goals as goal

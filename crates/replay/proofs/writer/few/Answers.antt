@@ -1,6 +1,5 @@
 -- `few` meets its contract, by its test. Assumes nothing.
 use native.Mathlib.Omega.{arith}
-use borrow.Author.Rules.{rules}
 use Rattle.tables.specs.Limits.{most_rows}
 use Rattle.replay.proofs.writer.few.Goals as goal
 

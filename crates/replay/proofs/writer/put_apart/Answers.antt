@@ -1,10 +1,6 @@
-use Prim.Native.Nat.{◌-◌}
 use native.Mathlib.Omega.{arith}
-use lib.ListN.{length}
-use borrow.Author.Rules.{rules}
 use Rattle.tables.specs.Limits.{most_rows}
-use Rattle.relation.specs.Table.{related}
-use Rattle.replay.proofs.Picking.{Said, said_by, said_none, said_more, said_all}
+use Rattle.replay.proofs.Picking.{said_by, said_none, said_more, said_all}
 use Rattle.replay.proofs.writer.put_apart.Goals as goal
 
 pub loop-x-init : goal.loop-x-init

@@ -1,11 +1,8 @@
 -- `put_apart` meets its contract: what stands before x is said of the commands before x. Assumes nothing.
 use Prim.Native.Nat.{◌-◌}
-use native.Mathlib.Omega.{arith}
 use lib.ListN.{length}
-use borrow.Author.Rules.{rules}
-use Rattle.tables.specs.Limits.{most_rows}
 use Rattle.relation.specs.Table.{related}
-use Rattle.replay.proofs.Picking.{Said, said_by, said_none, said_more, said_all}
+use Rattle.replay.proofs.Picking.{Said}
 use Rattle.replay.proofs.writer.put_apart.Given as goal
 
 abbrev pub invariant-loop-x : goal.invariant-loop-x

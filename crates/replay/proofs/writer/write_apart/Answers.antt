@@ -1,7 +1,6 @@
 -- `write_apart` meets its contract: it is the writer that has d go first and what c does not reach. Assumes nothing.
 use mathlib.Core.Path.{refl}
 use native.Mathlib.Omega.{arith}
-use borrow.Author.Rules.{rules}
 use Rattle.tables.specs.Limits.{most_rows}
 use Rattle.replay.proofs.Wrote.{wrote_apart}
 use Rattle.replay.proofs.writer.write_apart.Goals as goal

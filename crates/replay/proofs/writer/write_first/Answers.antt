@@ -1,6 +1,5 @@
 -- `write_first` meets its contract: each refusal from the test that found it, with the room as it was, or the schedule. Assumes nothing.
 use mathlib.Core.Path.{refl, sym, ◌∙◌}
-use borrow.Author.Rules.{rules}
 use lib.Seq.{length-take-le}
 use Rattle.verdicts.proofs.Verdicts.{zero_told}
 use Rattle.verdicts.proofs.FirstTold.{number_is, said_zero}

@@ -1,5 +1,4 @@
 -- `write_schedule` meets its contract: it is the writer that has no command go first. Assumes nothing.
-use borrow.Author.Rules.{rules}
 use Rattle.replay.proofs.Wrote.{wrote_lowest}
 use Rattle.replay.proofs.writer.write_schedule.Goals as goal
 

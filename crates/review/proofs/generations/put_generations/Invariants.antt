@@ -1,12 +1,8 @@
 -- The first c generations are in the room. Assumes nothing.
-use mathlib.Core.Path.{◌≡◌, refl, ap, ◌∙◌}
-use Prim.Native.Nat.{ℕ, ◌≤◌, ◌-◌}
-use mathlib.Core.List.{List}
-use native.Mathlib.Omega.{arith}
-use lib.ListN.{length, get_or, set}
-use Rattle.tables.specs.Limits.{most_rows}
-use Rattle.review.proofs.Rooms.{put, put_more}
-use borrow.Author.Rules.{rules}
+use mathlib.Core.Path.{◌≡◌}
+use Prim.Native.Nat.{◌≤◌, ◌-◌}
+use lib.ListN.{length}
+use Rattle.review.proofs.Rooms.{put}
 use Rattle.review.proofs.generations.put_generations.Given as goal
 
 abbrev pub invariant-loop-c : goal.invariant-loop-c

@@ -1,6 +1,5 @@
 -- `review` meets its contract: refused and judged before a room is touched; or the generations and happens-before are put, and faults are looked for over them. Assumes nothing.
 use mathlib.Core.Path.{sym, ◌∙◌}
-use borrow.Author.Rules.{rules}
 use Rattle.verdicts.proofs.FirstTold.{number_is, said_zero}
 use Rattle.rooms.proofs.Refusals.{admitted}
 use Rattle.review.proofs.Reviews.{reviewed_refused, reviewed_judged, reviewed_filled}

@@ -1,7 +1,6 @@
 -- `admits` meets its contract: the number of the refusal is looked at. Assumes nothing.
 use mathlib.Core.Path.{ap, ◌∙◌}
 use lib.Dec.{eqb}
-use borrow.Author.Rules.{rules}
 use Rattle.verdicts.specs.declared.Told.{Told}
 use Rattle.rooms.proofs.refusal.admits.Goals as goal
 

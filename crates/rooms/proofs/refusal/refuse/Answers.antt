@@ -1,6 +1,5 @@
 -- `refuse` meets its contract: the tables are refused, or the rooms. Assumes nothing.
 use mathlib.Core.Path.{◌∙◌}
-use borrow.Author.Rules.{rules}
 use Rattle.rooms.proofs.Refusals.{refuses_tables, refuses_rooms}
 use Rattle.rooms.proofs.refusal.refuse.Goals as goal
 

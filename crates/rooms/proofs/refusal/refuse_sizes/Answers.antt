@@ -1,7 +1,6 @@
 -- `refuse_sizes` meets its contract: the commands are refused by their number, or the rooms by theirs. Assumes nothing.
 use mathlib.Core.Path.{sym, ◌∙◌}
 use native.Mathlib.Omega.{arith}
-use borrow.Author.Rules.{rules}
 use Rattle.tables.specs.Limits.{most_rows}
 use Rattle.rules.proofs.Rules.{whole_commands}
 use Rattle.rooms.proofs.Refusals.{sizes_commands, sizes_rooms}

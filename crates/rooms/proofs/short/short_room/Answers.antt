@@ -1,7 +1,5 @@
-use Prim.Native.Nat.{◌-◌}
-use lib.ListN.{length}
 use borrow.Author.Rules.{rules}
-use Rattle.rooms.proofs.Rooms.{Gone, gone_none, gone_more, gone_short, gone_all}
+use Rattle.rooms.proofs.Rooms.{gone_none, gone_more, gone_short, gone_all}
 use Rattle.rooms.proofs.short.short_room.Goals as goal
 
 pub loop-i-init : goal.loop-i-init

@@ -1,8 +1,7 @@
 -- `short_room` meets its contract: none of the rooms before the one that the loop has come to is short. Assumes nothing.
 use Prim.Native.Nat.{◌-◌}
 use lib.ListN.{length}
-use borrow.Author.Rules.{rules}
-use Rattle.rooms.proofs.Rooms.{Gone, gone_none, gone_more, gone_short, gone_all}
+use Rattle.rooms.proofs.Rooms.{Gone}
 use Rattle.rooms.proofs.short.short_room.Given as goal
 
 abbrev pub invariant-loop-i : goal.invariant-loop-i

@@ -1,5 +1,4 @@
 -- `Set::has` meets its contract, by the limit and then by the bit. Assumes nothing.
-use borrow.Author.Rules.{rules}
 use borrow.Author.Tests.{lt-ltb, le-ltb}
 use Rattle.relation.specs.Bits.{bit_of}
 use Rattle.tables.specs.Limits.{most_threads}

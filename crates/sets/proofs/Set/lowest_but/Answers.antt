@@ -1,10 +1,9 @@
-use Prim.Native.Nat.{◌-◌}
 use borrow.Author.Rules.{rules}
 use native.Mathlib.Omega.{arith}
 use lib.Count.{trailing_le}
 use Rattle.tables.specs.Limits.{most_threads}
 use Rattle.sets.specs.Set.{set_words}
-use Rattle.sets.proofs.Sets.{Passed, passed_none, passed_more, passed_all, passed_found}
+use Rattle.sets.proofs.Sets.{passed_none, passed_more, passed_all, passed_found}
 use Rattle.sets.proofs.Set.lowest_but.Goals as goal
 
 pub loop-i-init : goal.loop-i-init

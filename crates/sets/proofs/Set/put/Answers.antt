@@ -1,5 +1,4 @@
 -- `Set::put` meets its contract, by the limit and then by the word. Assumes nothing.
-use borrow.Author.Rules.{rules}
 use borrow.Author.Tests.{lt-ltb, le-ltb}
 use Rattle.tables.specs.Limits.{most_threads}
 use Rattle.sets.specs.Words.{put_at}

@@ -1,5 +1,4 @@
 -- The pair is kept where there is a place left, and counted. Assumes nothing.
-use borrow.Author.Rules.{rules}
 use borrow.Author.Tests.{lt-ltb, le-ltb}
 use Rattle.sheet.specs.Sheet.{added, most_kept}
 use Rattle.sheet.proofs.Sheet.add.Goals as goal

@@ -1,10 +1,7 @@
-use mathlib.Core.Path.{◌≡◌, sym, ◌∙◌}
-use Prim.Native.Nat.{◌+◌, ◌-◌}
+use mathlib.Core.Path.{sym, ◌∙◌}
 use native.Mathlib.Omega.{arith}
-use lib.ListN.{length, drop}
-use borrow.Author.Rules.{rules}
 use borrow.Author.Tests.{eq-eqb, ne_eqb}
-use Rattle.spelling.specs.Bytes.{is, run}
+use Rattle.spelling.specs.Bytes.{is}
 use Rattle.spelling.proofs.Scans.{run_on, run_off, run_out}
 use Rattle.spelling.proofs.bytes.run_of.Goals as goal
 

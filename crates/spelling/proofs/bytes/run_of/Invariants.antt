@@ -1,12 +1,8 @@
 -- `run_of` meets its contract: what the loop has passed and the run from there on are the whole run. Assumes nothing.
-use mathlib.Core.Path.{◌≡◌, sym, ◌∙◌}
+use mathlib.Core.Path.{◌≡◌}
 use Prim.Native.Nat.{◌+◌, ◌-◌}
-use native.Mathlib.Omega.{arith}
 use lib.ListN.{length, drop}
-use borrow.Author.Rules.{rules}
-use borrow.Author.Tests.{eq-eqb, ne_eqb}
 use Rattle.spelling.specs.Bytes.{is, run}
-use Rattle.spelling.proofs.Scans.{run_on, run_off, run_out}
 use Rattle.spelling.proofs.bytes.run_of.Given as goal
 
 abbrev pub invariant-loop-i : goal.invariant-loop-i

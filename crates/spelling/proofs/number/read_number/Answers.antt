@@ -1,12 +1,10 @@
-use mathlib.Core.Path.{◌≡◌, refl, sym, ◌∙◌}
-use mathlib.Core.Logic.{⊎_elim}
-use Prim.Native.Nat.{◌+◌, ◌-◌, ◌*◌, ◌≤◌}
+use mathlib.Core.Path.{refl, sym, ◌∙◌}
+use Prim.Native.Nat.{◌+◌, ◌-◌, ◌*◌}
 use native.Mathlib.Omega.{arith}
-use lib.ListN.{length, drop, get_or}
-use borrow.Author.Rules.{rules}
-use borrow.Author.Tests.{eq-eqb, ne_eqb, eqb-true, eqb-false}
-use Rattle.spelling.specs.Bytes.{is, digit, run}
-use Rattle.spelling.specs.Numbers.{most_number, decimal}
+use lib.ListN.{drop, get_or}
+use borrow.Author.Tests.{eq-eqb, ne_eqb}
+use Rattle.spelling.specs.Bytes.{is, digit}
+use Rattle.spelling.specs.Numbers.{most_number}
 use Rattle.spelling.proofs.Scans.{run_on, run_off, run_out}
 use Rattle.spelling.proofs.Numbers.{means_number, means_nothing, digit_range, decimal_grows, decimal_on, decimal_out}
 use Rattle.spelling.proofs.number.read_number.Goals as goal

@@ -1,15 +1,9 @@
 -- `read_number` meets its contract: the bytes that the loop has passed are digits, of the value it holds. Assumes nothing.
-use mathlib.Core.Path.{◌≡◌, refl, sym, ◌∙◌}
-use mathlib.Core.Logic.{⊎_elim}
-use Prim.Native.Nat.{◌+◌, ◌-◌, ◌*◌, ◌≤◌}
-use native.Mathlib.Omega.{arith}
-use lib.ListN.{length, drop, get_or}
-use borrow.Author.Rules.{rules}
-use borrow.Author.Tests.{eq-eqb, ne_eqb, eqb-true, eqb-false}
+use mathlib.Core.Path.{◌≡◌}
+use Prim.Native.Nat.{◌+◌, ◌-◌, ◌≤◌}
+use lib.ListN.{length, drop}
 use Rattle.spelling.specs.Bytes.{is, digit, run}
 use Rattle.spelling.specs.Numbers.{most_number, decimal}
-use Rattle.spelling.proofs.Scans.{run_on, run_off, run_out}
-use Rattle.spelling.proofs.Numbers.{means_number, means_nothing, digit_range, decimal_grows, decimal_on, decimal_out}
 use Rattle.spelling.proofs.number.read_number.Given as goal
 
 abbrev pub invariant-loop-i : goal.invariant-loop-i

@@ -1,9 +1,6 @@
-use mathlib.Core.Path.{◌≡◌, refl, sym, ◌∙◌}
-use Prim.Native.Nat.{◌-◌}
+use mathlib.Core.Path.{refl, sym, ◌∙◌}
 use native.Mathlib.Omega.{arith}
-use lib.ListN.{length, drop}
 use borrow.Author.Rules.{rules}
-use Rattle.spelling.specs.Words.{same_bytes}
 use Rattle.spelling.proofs.Words.{alike_long, alike_on, alike_off, alike_out}
 use Rattle.spelling.proofs.word.same.Goals as goal
 

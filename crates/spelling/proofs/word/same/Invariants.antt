@@ -1,11 +1,8 @@
 -- `same` meets its contract: the bytes that the loop has passed are those of the word. Assumes nothing.
-use mathlib.Core.Path.{◌≡◌, refl, sym, ◌∙◌}
+use mathlib.Core.Path.{◌≡◌}
 use Prim.Native.Nat.{◌-◌}
-use native.Mathlib.Omega.{arith}
 use lib.ListN.{length, drop}
-use borrow.Author.Rules.{rules}
 use Rattle.spelling.specs.Words.{same_bytes}
-use Rattle.spelling.proofs.Words.{alike_long, alike_on, alike_off, alike_out}
 use Rattle.spelling.proofs.word.same.Given as goal
 
 abbrev pub invariant-loop-i : goal.invariant-loop-i

@@ -1,6 +1,5 @@
 -- `run_row` meets its contract, by its tests and by what is met. Assumes nothing.
 use mathlib.Core.Path.{◌∙◌}
-use borrow.Author.Rules.{rules}
 use native.Mathlib.Omega.{arith}
 use Rattle.tables.specs.Limits.{barriers}
 use borrow.Author.Tests.{not-true, not-false}

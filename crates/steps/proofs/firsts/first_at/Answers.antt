@@ -1,7 +1,6 @@
 -- `first_at` meets its contract, by its test. Assumes nothing.
 use mathlib.Core.Path.{sym}
 use lib.ListN.{get_or-eq_default}
-use borrow.Author.Rules.{rules}
 use Rattle.steps.proofs.firsts.first_at.Goals as goal
 
 pub returns : goal.returns

@@ -2,10 +2,8 @@
 use mathlib.Core.Path.{◌≡◌}
 use Prim.Native.Nat.{◌-◌}
 use lib.ListN.{length}
-use borrow.Author.Rules.{rules}
-use native.Mathlib.Omega.{arith}
 use Rattle.tables.specs.Limits.{most_threads}
-use Rattle.steps.proofs.Stepping.{Begins, begins_none, begins_more, begins_all}
+use Rattle.steps.proofs.Stepping.{Begins}
 use Rattle.steps.proofs.firsts.first_rows.Given as goal
 
 abbrev pub invariant-loop-t : goal.invariant-loop-t

@@ -1,6 +1,5 @@
 -- `go_on` meets its contract, by whether the replay has ended. Assumes nothing.
 use mathlib.Core.Path.{◌∙◌}
-use borrow.Author.Rules.{rules}
 use Rattle.steps.proofs.Entries.{goes_ended, goes_open}
 use Rattle.steps.proofs.going.go_on.Goals as goal
 

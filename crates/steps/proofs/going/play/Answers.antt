@@ -1,13 +1,10 @@
-use mathlib.Core.Path.{◌≡◌, sym, ◌∙◌}
-use Prim.Native.Nat.{◌-◌, ◌≤◌}
+use mathlib.Core.Path.{sym, ◌∙◌}
 use native.Mathlib.Omega.{arith}
-use lib.ListN.{length, get_or}
+use lib.ListN.{get_or}
 use borrow.Author.Rules.{rules}
 use Rattle.tables.specs.Limits.{most_threads, most_rows, barriers}
-use Rattle.verdicts.specs.declared.Verdict.TheVariants as verdict
-use Rattle.steps.specs.Going.{standing}
 use Rattle.steps.proofs.Stepping.{found, found_thread, found_next, stored}
-use Rattle.steps.proofs.Entries.{At, at_start, at_end, at_refused, at_mismatch, at_more, ran_goes}
+use Rattle.steps.proofs.Entries.{at_start, at_end, at_refused, at_mismatch, at_more, ran_goes}
 use Rattle.steps.proofs.going.play.Goals as goal
 
 pub loop-i-init : goal.loop-i-init

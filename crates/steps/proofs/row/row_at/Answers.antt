@@ -1,6 +1,5 @@
 -- `row_at` meets its contract, by the kind and then by the barrier. Assumes nothing.
 use mathlib.Core.Path.{◌∙◌}
-use borrow.Author.Rules.{rules}
 use Rattle.tables.specs.Limits.{barriers}
 use Rattle.steps.proofs.RowTests.{row_low, row_past, row_enters}
 use Rattle.steps.proofs.row.row_at.Goals as goal

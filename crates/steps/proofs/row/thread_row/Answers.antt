@@ -1,7 +1,5 @@
 -- `thread_row` meets its contract, by whether the thread may step. Assumes nothing.
 use mathlib.Core.Path.{◌∙◌}
-use borrow.Author.Rules.{rules}
-use borrow.Author.Tests.{not-true, not-false}
 use Rattle.steps.proofs.RowTests.{thread_stays, thread_goes, with_barrier}
 use Rattle.steps.proofs.row.thread_row.Goals as goal
 

@@ -1,9 +1,9 @@
 use mathlib.Core.Path.{ap}
-use Prim.Native.Nat.{ℕ, ◌-◌, ◌+◌}
+use Prim.Native.Nat.{ℕ, ◌+◌}
 use borrow.Author.Rules.{rules}
 use native.Mathlib.Omega.{arith}
 use Rattle.tables.specs.Limits.{most_threads}
-use Rattle.turns.proofs.Kept.{LookedBelow, looked_none, looked_more, looked_all}
+use Rattle.turns.proofs.Kept.{looked_none, looked_more, looked_all}
 use Rattle.steps.proofs.writing.all_ready.Goals as goal
 
 pub loop-t-init : goal.loop-t-init

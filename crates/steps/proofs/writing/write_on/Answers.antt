@@ -1,13 +1,11 @@
-use mathlib.Core.Path.{◌≡◌, refl, sym, ◌∙◌}
-use Prim.Native.Nat.{◌-◌}
+use mathlib.Core.Path.{refl, sym, ◌∙◌}
 use native.Mathlib.Omega.{arith}
-use lib.ListN.{length, length-set}
+use lib.ListN.{length-set}
 use borrow.Author.Rules.{rules}
-use borrow.Author.Tests.{not-true, not-false}
 use Rattle.tables.specs.Limits.{most_threads, barriers}
 use Rattle.turns.proofs.Kept.{kept_start}
 use Rattle.steps.proofs.Stepping.{found, found_next, found_command}
-use Rattle.steps.proofs.Written.{Writing, writing_start, writing_none, writing_last, writing_more, writing_end}
+use Rattle.steps.proofs.Written.{writing_start, writing_none, writing_last, writing_more, writing_end}
 use Rattle.steps.proofs.writing.write_on.Goals as goal
 
 pub loop-steps-init : goal.loop-steps-init

@@ -1,14 +1,8 @@
 -- `write_on` meets its contract: after some steps the room has what they are, and the sets say who may step next. Assumes nothing.
-use mathlib.Core.Path.{◌≡◌, refl, sym, ◌∙◌}
+use mathlib.Core.Path.{◌≡◌}
 use Prim.Native.Nat.{◌-◌}
-use native.Mathlib.Omega.{arith}
-use lib.ListN.{length, length-set}
-use borrow.Author.Rules.{rules}
-use borrow.Author.Tests.{not-true, not-false}
-use Rattle.tables.specs.Limits.{most_threads, barriers}
-use Rattle.turns.proofs.Kept.{kept_start}
-use Rattle.steps.proofs.Stepping.{found, found_next, found_command}
-use Rattle.steps.proofs.Written.{Writing, writing_start, writing_none, writing_last, writing_more, writing_end}
+use lib.ListN.{length}
+use Rattle.steps.proofs.Written.{Writing}
 use Rattle.steps.proofs.writing.write_on.Given as goal
 
 abbrev pub invariant-loop-steps : goal.invariant-loop-steps

@@ -1,6 +1,4 @@
 -- A short room is refused by the first write; else every edge is taken. Assumes nothing.
-use borrow.Author.Rules.{rules}
-use borrow.Author.Tests.{not-true, not-false}
 use Rattle.sweeps.proofs.Sweeping.{unreached, has_room, reached}
 use Rattle.sweeps.proofs.sweeps.put_reach.Goals as goal
 

@@ -1,9 +1,7 @@
 use native.Mathlib.Omega.{arith}
-use borrow.Author.Tests.{not-true, not-false}
 use Rattle.relation.proofs.Truth.{left}
-use Rattle.sweeps.specs.Pairs.{PairIn}
-use Rattle.sweeps.specs.Needs.{Joined, none}
-use Rattle.sweeps.proofs.Passes.{joined_join, joined_length, still_fits, pass_join, left_to_grow, grows}
+use Rattle.sweeps.specs.Needs.{none}
+use Rattle.sweeps.proofs.Passes.{joined_join, joined_length, still_fits, pass_join, grows}
 use Rattle.sweeps.proofs.Sweeping.{settled}
 use borrow.Author.Rules.{rules}
 use Rattle.sweeps.proofs.sweeps.settle.Goals as goal

@@ -1,12 +1,7 @@
 -- Two sweeps that change something make words grow; one that changes nothing has taken every edge. Assumes nothing.
-use native.Mathlib.Omega.{arith}
-use borrow.Author.Tests.{not-true, not-false}
-use Rattle.relation.proofs.Truth.{left}
 use Rattle.sweeps.specs.Pairs.{PairIn}
-use Rattle.sweeps.specs.Needs.{Joined, none}
-use Rattle.sweeps.proofs.Passes.{joined_join, joined_length, still_fits, pass_join, left_to_grow, grows}
-use Rattle.sweeps.proofs.Sweeping.{settled}
-use borrow.Author.Rules.{rules}
+use Rattle.sweeps.specs.Needs.{Joined}
+use Rattle.sweeps.proofs.Passes.{left_to_grow}
 use Rattle.sweeps.proofs.sweeps.settle.Given as goal
 
 abbrev pub invariant-loop-m : goal.invariant-loop-m

@@ -1,8 +1,6 @@
 use mathlib.Core.Path.{◌≡◌}
-use Prim.Native.Nat.{◌≤◌, ◌-◌}
+use Prim.Native.Nat.{◌-◌}
 use native.Mathlib.Omega.{arith}
-use Rattle.sweeps.specs.Pairs.{PairBetween, PairIn}
-use Rattle.sweeps.specs.Needs.{Pass}
 use Rattle.sweeps.proofs.Passes.{joined_length, still_fits, pass_none, pass_join, pass_part}
 use Rattle.sweeps.proofs.Sweeping.{between_more, pass_pair}
 use borrow.Author.Rules.{rules}

@@ -1,8 +1,4 @@
-use Prim.Native.Nat.{◌≤◌, ◌-◌}
 use native.Mathlib.Omega.{arith}
-use lib.ListN.{length}
-use Rattle.sweeps.specs.Pairs.{pair_count, PairBetween, PairIn}
-use Rattle.sweeps.specs.Needs.{Pass}
 use Rattle.sweeps.proofs.Passes.{joined_join, joined_length, still_fits, pass_none, pass_join, pass_part}
 use Rattle.sweeps.proofs.Sweeping.{between_on}
 use borrow.Author.Rules.{rules}

@@ -1,9 +1,6 @@
 use mathlib.Core.Path.{◌≡◌, refl}
-use Prim.Native.Nat.{◌-◌, ◌≤◌}
 use native.Mathlib.Omega.{arith}
-use lib.ListN.{length}
 use borrow.Author.Rules.{rules}
-use Rattle.tables.specs.Needs.{Fills}
 use Rattle.tables.proofs.Filling.{fills_none, fills_more}
 use Rattle.tables.proofs.heads.fill.Goals as goal
 

@@ -1,11 +1,8 @@
 -- `fill` meets its contract: the room is filled to the place that the loop has come to. Assumes nothing.
-use mathlib.Core.Path.{◌≡◌, refl}
+use mathlib.Core.Path.{◌≡◌}
 use Prim.Native.Nat.{◌-◌, ◌≤◌}
-use native.Mathlib.Omega.{arith}
 use lib.ListN.{length}
-use borrow.Author.Rules.{rules}
 use Rattle.tables.specs.Needs.{Fills}
-use Rattle.tables.proofs.Filling.{fills_none, fills_more}
 use Rattle.tables.proofs.heads.fill.Given as goal
 
 abbrev pub invariant-loop-c : goal.invariant-loop-c

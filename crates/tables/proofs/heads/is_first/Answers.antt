@@ -1,6 +1,5 @@
 -- `is_first` meets its contract: past the room there is 0, and else the head. Assumes nothing.
 use lib.ListN.{get_or-eq_default}
-use borrow.Author.Rules.{rules}
 use Rattle.tables.proofs.heads.is_first.Goals as goal
 
 pub returns-then-heads-c : goal.returns-then-heads-c

@@ -1,9 +1,6 @@
 use mathlib.Core.Path.{refl}
-use Prim.Native.Nat.{◌-◌}
-use native.Mathlib.Omega.{arith}
-use lib.ListN.{length}
 use borrow.Author.Rules.{rules}
-use Rattle.tables.proofs.Filling.{Begun, begun_none, begun_more, begun_all}
+use Rattle.tables.proofs.Filling.{begun_none, begun_more, begun_all}
 use Rattle.tables.proofs.heads.put_heads.Goals as goal
 
 pub loop-t-init : goal.loop-t-init

@@ -1,10 +1,7 @@
 -- `put_heads` meets its contract: the threads before the one that the loop has come to have their heads, and after them what is left of the room. Assumes nothing.
-use mathlib.Core.Path.{refl}
 use Prim.Native.Nat.{◌-◌}
-use native.Mathlib.Omega.{arith}
 use lib.ListN.{length}
-use borrow.Author.Rules.{rules}
-use Rattle.tables.proofs.Filling.{Begun, begun_none, begun_more, begun_all}
+use Rattle.tables.proofs.Filling.{Begun}
 use Rattle.tables.proofs.heads.put_heads.Given as goal
 
 abbrev pub invariant-loop-t : goal.invariant-loop-t

@@ -2,7 +2,6 @@
 use mathlib.Core.Path.{sym}
 use native.Mathlib.Omega.{arith}
 use lib.ListN.{get_or-eq_default}
-use borrow.Author.Rules.{rules}
 use Rattle.tables.proofs.names.name_of.Goals as goal
 
 pub returns-then-numbers-c : goal.returns-then-numbers-c

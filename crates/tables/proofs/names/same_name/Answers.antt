@@ -1,5 +1,4 @@
 -- `same_name` meets its contract: the two names, compared. Assumes nothing.
-use borrow.Author.Rules.{rules}
 use Rattle.tables.proofs.names.same_name.Goals as goal
 
 pub returns : goal.returns

@@ -1,11 +1,7 @@
 -- `first_row` meets its contract: the sum is where the thread begins that the loop has come to. Assumes nothing.
-use mathlib.Core.Path.{◌≡◌, sym, ap, ◌∙◌}
+use mathlib.Core.Path.{◌≡◌}
 use Prim.Native.Nat.{◌*◌, ◌^◌, ◌-◌, ◌≤◌}
-use native.Mathlib.Omega.{arith}
-use borrow.Author.Rules.{rules}
-use Rattle.tables.specs.Limits.{most_threads}
 use Rattle.tables.specs.Rows.{first_row}
-use Rattle.tables.proofs.Rows.{first_none, first_next, first_cut}
 use Rattle.tables.proofs.threads.first_row.Given as goal
 
 abbrev pub invariant-loop-t : goal.invariant-loop-t

@@ -1,5 +1,4 @@
 -- `allows` meets its contract, by its tests. Assumes nothing.
-use borrow.Author.Rules.{rules}
 use Rattle.turns.proofs.choice.allows.Goals as goal
 
 pub returns : goal.returns

@@ -1,5 +1,4 @@
 -- `has_left` meets its contract, by its tests. Assumes nothing.
-use borrow.Author.Rules.{rules}
 use Rattle.tables.specs.Limits.{most_threads}
 use Rattle.turns.proofs.Turns.{left_past, left_none, left_is}
 use Rattle.turns.proofs.choice.has_left.Goals as goal

@@ -1,8 +1,4 @@
-use Prim.Native.Nat.{◌-◌}
-use lib.ListN.{length}
-use borrow.Author.Rules.{rules}
-use Rattle.tables.proofs.Scans.{Scanned, scan_none, scan_more, scan_found, scan_end}
-use Rattle.turns.specs.Turns.{may_step}
+use Rattle.tables.proofs.Scans.{scan_none, scan_more, scan_found, scan_end}
 use Rattle.turns.proofs.Turns.{may_is}
 use Rattle.turns.proofs.choice.lowest_allowed.Goals as goal
 

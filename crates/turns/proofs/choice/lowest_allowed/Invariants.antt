@@ -1,10 +1,8 @@
 -- `lowest_allowed` meets its contract: no thread that the loop has passed may step. Assumes nothing.
 use Prim.Native.Nat.{◌-◌}
 use lib.ListN.{length}
-use borrow.Author.Rules.{rules}
-use Rattle.tables.proofs.Scans.{Scanned, scan_none, scan_more, scan_found, scan_end}
+use Rattle.tables.proofs.Scans.{Scanned}
 use Rattle.turns.specs.Turns.{may_step}
-use Rattle.turns.proofs.Turns.{may_is}
 use Rattle.turns.proofs.choice.lowest_allowed.Given as goal
 
 abbrev pub invariant-loop-t : goal.invariant-loop-t

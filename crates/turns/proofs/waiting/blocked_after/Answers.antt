@@ -1,6 +1,5 @@
 -- `blocked_after` meets its contract, by whether anybody was released. Assumes nothing.
 use native.Mathlib.Omega.{arith}
-use borrow.Author.Rules.{rules}
 use borrow.Author.Tests.{eq-eqb, ne_eqb}
 use Rattle.turns.proofs.waiting.blocked_after.Goals as goal
 

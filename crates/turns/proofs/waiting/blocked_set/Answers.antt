@@ -1,8 +1,4 @@
-use mathlib.Core.Path.{◌≡◌}
-use Prim.Native.Nat.{◌-◌, ◌≤◌}
-use lib.ListN.{length}
 use borrow.Author.Rules.{rules}
-use Rattle.turns.specs.Ready.{held_below}
 use Rattle.turns.proofs.Kept.{held_none, held_more, held_all}
 use Rattle.turns.proofs.waiting.blocked_set.Goals as goal
 

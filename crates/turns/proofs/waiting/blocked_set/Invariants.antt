@@ -2,9 +2,7 @@
 use mathlib.Core.Path.{◌≡◌}
 use Prim.Native.Nat.{◌-◌, ◌≤◌}
 use lib.ListN.{length}
-use borrow.Author.Rules.{rules}
 use Rattle.turns.specs.Ready.{held_below}
-use Rattle.turns.proofs.Kept.{held_none, held_more, held_all}
 use Rattle.turns.proofs.waiting.blocked_set.Given as goal
 
 abbrev pub invariant-loop-t : goal.invariant-loop-t

@@ -1,5 +1,4 @@
 -- `is_held` meets its contract, by its tests. Assumes nothing.
-use borrow.Author.Rules.{rules}
 use Rattle.tables.specs.Limits.{most_threads}
 use Rattle.turns.proofs.Turns.{held_is}
 use Rattle.turns.proofs.waiting.is_held.Goals as goal

@@ -1,8 +1,5 @@
 use mathlib.Core.Path.{sym, ◌∙◌}
-use Prim.Native.Nat.{◌-◌}
-use borrow.Author.Rules.{rules}
-use Rattle.tables.proofs.Scans.{Scanned, scan_none, scan_more, scan_found, scan_end}
-use Rattle.turns.specs.Turns.{held}
+use Rattle.tables.proofs.Scans.{scan_none, scan_more, scan_found, scan_end}
 use Rattle.turns.proofs.waiting.lowest_blocked.Goals as goal
 
 pub loop-t-init : goal.loop-t-init

@@ -1,8 +1,6 @@
 -- `lowest_blocked` meets its contract: no thread that the loop has passed waits. Assumes nothing.
-use mathlib.Core.Path.{sym, ◌∙◌}
 use Prim.Native.Nat.{◌-◌}
-use borrow.Author.Rules.{rules}
-use Rattle.tables.proofs.Scans.{Scanned, scan_none, scan_more, scan_found, scan_end}
+use Rattle.tables.proofs.Scans.{Scanned}
 use Rattle.turns.specs.Turns.{held}
 use Rattle.turns.proofs.waiting.lowest_blocked.Given as goal
 

@@ -1,7 +1,6 @@
 -- `put` meets its contract, by its test. Assumes nothing.
 use mathlib.Core.Path.{sym}
 use lib.Seq.{set_out}
-use borrow.Author.Rules.{rules}
 use Rattle.turns.proofs.waiting.put.Goals as goal
 
 pub returns-else-i-numbers : goal.returns-else-i-numbers

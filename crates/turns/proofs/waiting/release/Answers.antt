@@ -1,9 +1,5 @@
-use mathlib.Core.Path.{◌≡◌}
-use Prim.Native.Nat.{◌-◌, ◌≤◌}
-use lib.ListN.{length}
 use borrow.Author.Rules.{rules}
-use Rattle.turns.specs.Turns.{let_go_of}
-use Rattle.turns.proofs.Fronts.{map_front, front_more, front_end}
+use Rattle.turns.proofs.Fronts.{front_more, front_end}
 use Rattle.turns.proofs.waiting.release.Goals as goal
 
 pub loop-t-preserved : goal.loop-t-preserved

@@ -2,9 +2,8 @@
 use mathlib.Core.Path.{◌≡◌}
 use Prim.Native.Nat.{◌-◌, ◌≤◌}
 use lib.ListN.{length}
-use borrow.Author.Rules.{rules}
 use Rattle.turns.specs.Turns.{let_go_of}
-use Rattle.turns.proofs.Fronts.{map_front, front_more, front_end}
+use Rattle.turns.proofs.Fronts.{map_front}
 use Rattle.turns.proofs.waiting.release.Given as goal
 
 abbrev pub invariant-loop-t : goal.invariant-loop-t

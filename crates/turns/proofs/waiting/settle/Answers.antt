@@ -1,5 +1,4 @@
 -- `settle` meets its contract, by whether anybody is released. Assumes nothing.
-use borrow.Author.Rules.{rules}
 use Rattle.turns.proofs.Turns.{settles_some, settles_none}
 use Rattle.turns.proofs.waiting.settle.Goals as goal
 

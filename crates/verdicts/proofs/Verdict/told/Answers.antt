@@ -1,5 +1,4 @@
 -- `Verdict::number` meets its contract: each verdict's number and place are those of the definition. Assumes nothing.
-use borrow.Author.Rules.{rules}
 use Rattle.verdicts.proofs.Verdict.told.Goals as goal
 
 pub returns-in-Clean : goal.returns-in-Clean

@@ -1,7 +1,6 @@
 -- `Barrier::register` meets its contract, by the phase and the count. Assumes nothing.
 use mathlib.Core.Path.{◌∙◌}
 use native.Mathlib.Omega.{arith}
-use borrow.Author.Rules.{rules}
 use Rattle.barriers.proofs.Registering.{registers_unset, registers_other, registers_same}
 use Rattle.barriers.proofs.barrier.Barrier.register.Goals as goal
 

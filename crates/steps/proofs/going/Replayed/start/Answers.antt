@@ -1,5 +1,4 @@
 -- `Replayed::start` meets its contract: the array has the limit's length. Assumes nothing.
-use borrow.Author.Rules.{rules}
 use Rattle.tables.specs.Limits.{most_rows}
 use Rattle.steps.specs.Going.{begun}
 use Rattle.steps.proofs.going.Replayed.start.Goals as goal

@@ -1,7 +1,6 @@
 -- `Replay::ending` meets its contract, by the tests in their order. Assumes nothing.
 use Prim.Native.Nat.{min}
 use native.Mathlib.Omega.{arith}
-use borrow.Author.Rules.{rules}
 use Rattle.tables.specs.Limits.{most_threads, barriers}
 use Rattle.steps.specs.Step.{allowed}
 use Rattle.steps.proofs.Stepping.{first_small}

@@ -1,9 +1,7 @@
 use mathlib.Core.Path.{sym, ◌∙◌}
-use Prim.Native.Nat.{◌-◌}
 use borrow.Author.Rules.{rules}
 use Rattle.tables.specs.Limits.{barriers}
-use Rattle.steps.specs.Ending.{barrier_set}
-use Rattle.tables.proofs.Scans.{Scanned, scan_none, scan_more, scan_found, scan_end}
+use Rattle.tables.proofs.Scans.{scan_none, scan_more, scan_found, scan_end}
 use Rattle.steps.proofs.state.Replay.lowest_set.Goals as goal
 
 pub loop-b-init : goal.loop-b-init

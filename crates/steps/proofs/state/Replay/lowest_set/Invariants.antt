@@ -1,10 +1,8 @@
 -- `Replay::lowest_set` meets its contract: no barrier that the loop has passed is set. Assumes nothing.
-use mathlib.Core.Path.{sym, ◌∙◌}
 use Prim.Native.Nat.{◌-◌}
-use borrow.Author.Rules.{rules}
 use Rattle.tables.specs.Limits.{barriers}
 use Rattle.steps.specs.Ending.{barrier_set}
-use Rattle.tables.proofs.Scans.{Scanned, scan_none, scan_more, scan_found, scan_end}
+use Rattle.tables.proofs.Scans.{Scanned}
 use Rattle.steps.proofs.state.Replay.lowest_set.Given as goal
 
 abbrev pub invariant-loop-b : goal.invariant-loop-b

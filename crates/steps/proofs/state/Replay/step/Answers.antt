@@ -3,7 +3,6 @@ use mathlib.Core.Path.{sym, ◌∙◌}
 use Prim.Native.Nat.{min}
 use native.Mathlib.Omega.{arith}
 use borrow.Author.Rules.{rules}
-use borrow.Author.Tests.{not-true, not-false}
 use Rattle.tables.specs.Limits.{most_threads, barriers}
 use Rattle.tables.proofs.Rows.{first_within}
 use Rattle.steps.proofs.Stepping.{found, found_thread, found_next, answers_kept, answers_on, first_small, stored}

@@ -1,6 +1,5 @@
 -- `Ready::choose` meets its contract, by whether a thread goes first. Assumes nothing.
 use native.Mathlib.Omega.{arith}
-use borrow.Author.Rules.{rules}
 use Rattle.tables.specs.Limits.{most_threads}
 use Rattle.turns.proofs.Turns.{or_first, or_second}
 use Rattle.turns.proofs.ready.Ready.choose.Goals as goal

@@ -1,5 +1,4 @@
 -- `Ready::look` meets its contract: each set is put as its test says. Assumes nothing.
-use borrow.Author.Rules.{rules}
 use Rattle.turns.specs.Ready.{looked}
 use Rattle.turns.proofs.ready.Ready.look.Goals as goal
 

@@ -1,5 +1,4 @@
 -- `Ready::none` meets its contract: both sets are empty. Assumes nothing.
-use borrow.Author.Rules.{rules}
 use Rattle.turns.proofs.ready.Ready.none.Goals as goal
 
 pub returns : goal.returns
