@@ -9,7 +9,7 @@ use desk::Report;
 use input::{Came, Input, fill};
 
 mod asked; // what the arguments ask for
-mod input; // a text from a descriptor
+mod input; // a text from standard input
 
 // How many bytes stand before the first zero. The report room begins as zeros and a report has none, nor has evidence, so that is where the report ends.
 fn before_zero(room: &[u8]) -> usize

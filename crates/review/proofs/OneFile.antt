@@ -165,7 +165,7 @@ module _ {commands lengths : List ℕ} where
         sheet = sheet_is a.meets.demand₂ (filled a s) ∙ ap sheet_of (one_pairs sa sb) ∙ sym (sheet_is b.meets.demand₂ (filled b t));
         relation = λ p l.
             let h : p < words (rows commands) = omega arith in
-            holds_same a.relation b.relation a.relation' b.relation' (rows commands) _ a.in_words b.in_words (reached a s)
+            holds_same a.relation b.relation a.relation' b.relation' (rows commands) _ a.room_of_words b.room_of_words (reached a s)
             (same_reached commands lengths _ _ (λ c l. sym (alike c l)) b.relation b.relation' (reached b t)) p h;
         generations = λ c l.
             let h : c < rows commands = omega arith in

@@ -75,7 +75,7 @@ pub record Review (commands lengths : List ℕ) : Type 0 where
   pub relation' : List ℕ
   pub generations' : List ℕ
   pub meets : Reviewed commands lengths schedule relation generations found relation' generations'
-  pub in_words : Words relation'
+  pub room_of_words : Words relation'
 
 -- Two of them leave one file: the same verdict with its places, the same sheet with its total, the same words of the relation, M × ⌈M/32⌉, and the same M
 -- generations (R64). Beyond these each room is its owner's, and keeps what it held (`relation_beyond`, `generations_beyond` of Safe).
