@@ -4,10 +4,11 @@ texts=(examples/*.txt)
 top=$PWD
 review() { limited "$top/review" "$@"; }
 
-# The program by itself, under the toolchain's own loader: as ./review runs it.
+# The program by itself, under the toolchain's own loader and, on another machine, the emulator: as ./review runs it.
 home=${RATTLE_HOME:-$(kit)}
 tools=$home/toolchain
 by_itself=("$tools/lib/ld-linux-x86-64.so.2" --library-path "$tools/lib" target/bin/cuckoomoss)
+[ "$(uname -m)" = x86_64 ] || ! command -v qemu-x86_64 > /dev/null || by_itself=(qemu-x86_64 "${by_itself[@]}")
 program() { limited "${by_itself[@]}" "$@"; }
 
 # The first call may have to prove and build the program first, which takes minutes: so it has a limit of its own.
