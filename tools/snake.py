@@ -35,7 +35,6 @@ APART = {
     "has-run": "has_run_lem",
     "hasLeft": "has_any_left",
     "in-while": "in_while_lem",
-    "in-words": "room_of_words",
     "inWhile": "in_while",
     "is-first": "is_first_in_thread",
     "joined-if": "joined_if_lem",
