@@ -81,9 +81,6 @@ impl Barrier {
         ensures { AnswersIsSet self result }
     {
         let phase = self.phase;
-        match phase {
-            Phase::Unset => false,
-            Phase::Expecting(_, _) => true,
-        }
+        matches!(phase, Phase::Expecting(_, _))
     }
 }

@@ -5,5 +5,5 @@ ghost use Rattle.barriers.specs.Promise.{AnswersMore};
 pub fn more(n: u32) -> u32
     ensures { AnswersMore n result }
 {
-    if n < 4294967295 { n + 1 } else { n }
+    n.saturating_add(1)
 }

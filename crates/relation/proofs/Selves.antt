@@ -2,24 +2,18 @@
 use Prim.Native.Nat.{ℕ, ◌+◌, ◌≤◌, ◌<◌}
 use native.Mathlib.Omega.{arith}
 use native.Mathlib.Decide.{ℕ_discrete}
-use mathlib.Core.Path.{◌≡◌, refl, sym, ◌∙◌}
+use mathlib.Core.Path.{◌≡◌, sym, ◌∙◌}
 use mathlib.Core.Logic.{◌⊎◌, inl, inr, ⊎_elim, by_cases, ◌≢◌}
-use mathlib.Core.Bool.{Bool, true, false}
+use mathlib.Core.Bool.{Bool, true}
 use mathlib.Core.List.{List}
 use lib.ListN.{length}
 use borrow.Author.Tests.{leb-true}
 use Rattle.relation.specs.Table.{words, Holds, Writes, Puts}
-use Rattle.relation.proofs.Truth.{clashing}
-use Rattle.relation.proofs.Rooms.{place_in, holds_map, holds_trans, holds_self, holds_more, wrote, written}
+use Rattle.relation.proofs.Rooms.{place_in, holds_map, holds_more}
 
 -- the numbers below i are related to themselves
 abbrev pub Diagonal : List ℕ → List ℕ → ℕ → ℕ → Type 0
 Diagonal b r m i = Holds b r m (λ x y. (x ≡ y) × (x < i))
-
-pub diagonal_none : {b r : List ℕ} {m : ℕ} {said : Bool} → words m ≤ length b → Writes (λ i j. ⊥) b r m said → Diagonal r r m 0
-diagonal_none {b} {r} {m} fits W =
-    holds_map r r m (λ i j. ⊥) (λ x y. (x ≡ y) × (x < 0)) (λ x y lx ly. (λ z. absurd z, λ z. absurd (omega arith)))
-    (holds_self b r m (λ i j. ⊥) (wrote fits W))
 
 pub diagonal_more : {b r s : List ℕ} {m i : ℕ} → words m ≤ length b → i < m → Diagonal b r m i → Puts r s m i i → Diagonal b s m (i + 1)
 diagonal_more {b} {r} {s} {m} {i} fits li H P =
@@ -31,19 +25,9 @@ diagonal_more {b} {r} {s} {m} {i} fits li H P =
     (holds_more b r s m i i (λ x y. (x ≡ y) × (x < i)) li li H
     (P.within (place_in (length r) m i i (record { fits = omega (arith, H.len); from = li; to = li }))))
 
-pub diagonal_all : {b r s : List ℕ} {m i : ℕ} {said : Bool} → words m ≤ length b → m ≤ i → Writes (λ i j. ⊥) b r m said → Diagonal r s m i
-    → Writes (λ i j. i ≡ j) b s m true
-diagonal_all {b} {r} {s} {m} {i} fits h W H =
-    written (λ i j. i ≡ j) b s m fits
-    (holds_trans b r s m (λ i j. ⊥) (λ i j. i ≡ j) (wrote fits W)
-    (holds_map r s m (λ x y. (x ≡ y) × (x < i)) (λ i j. i ≡ j) (λ x y lx ly. (λ w. w.0, λ e. (e, omega arith))) H))
-
 -- a room that is not cleared is short
 pub cleared_fits : {b r : List ℕ} {m : ℕ} {R : ℕ → ℕ → Type 0} {said : Bool} → Writes R b r m said → said ≡ true → words m ≤ length b
 cleared_fits {b} {m = m} W e = leb-true _ _ (sym W.answer ∙ e)
 
 pub still_fits : {b r : List ℕ} {m : ℕ} {R : ℕ → ℕ → Type 0} {said : Bool} → Writes R b r m said → said ≡ true → words m ≤ length r
 still_fits W e = let l = (W.holds e).len in omega (arith, cleared_fits W e)
-
-pub not_cleared : {b r : List ℕ} {m : ℕ} {R S : ℕ → ℕ → Type 0} {said : Bool} → Writes R b r m said → said ≡ false → Writes S b r m false
-not_cleared W e = record { answer = sym e ∙ W.answer; refused = λ f. W.refused e; holds = λ t. clashing t refl }

@@ -15,7 +15,9 @@ use Rattle.relation.proofs.Words.{except_bit, zero_bit}
 use Rattle.relation.proofs.Truth.{split}
 use Rattle.tables.specs.Limits.{most_threads}
 use Rattle.tables.specs.Lowest.{lowest}
-use Rattle.tables.proofs.Lowest.{lowest_first, lowest_is}
+use Rattle.tables.proofs.Lowest.{lowest_first}
+use Rattle.tables.proofs.Scans.{found_some, found_none}
+use Rattle.std.proofs.Common.{Some, None}
 use Rattle.sets.specs.declared.Set.{Set}
 use Rattle.sets.specs.Words.{put_at}
 use Rattle.sets.specs.Set.{set_words, has, none, put, has_but, lowest_but}
@@ -89,26 +91,28 @@ module _ (a b : Set) where
             ap (has_but a b) (sym is) ∙ but_bit i (t % 64) small l ∙ ap (λ (w : ℕ). bit_of w (t % 64)) e ∙ zero_bit (t % 64));
       }
 
-  pub passed_all : {i : ℕ} → Passed i → set_words ≤ i → most_threads ≡ lowest_but a b
+  pub passed_all : {i : ℕ} → Passed i → set_words ≤ i → None ≡ lowest_but a b
   unfolding most_threads set_words
   passed_all P l =
-      sym (lowest_is (has_but a b) (record { at_most = omega arith; passes = λ m. absurd (omega arith); below = λ k m. P.none_so_far k (omega arith) }))
+      found_none (has_but a b) {i = most_threads} (record { within = omega arith; none = λ k m. P.none_so_far k (omega arith) }) (omega arith)
 
-  pub passed_found : {i w : ℕ} → Passed i → i < set_words → w ≡ left_of i → w < 2 ^ 64 → w ≢ 0 → i * 64 + count_trailing_zeros 64 w ≡ lowest_but a b
+  pub passed_found : {i w : ℕ} → Passed i → i < set_words → w ≡ left_of i → w < 2 ^ 64 → w ≢ 0 → Some (i * 64 + count_trailing_zeros 64 w) ≡ lowest_but a b
   unfolding most_threads set_words
   passed_found {i} {w} P l e small n =
       let k = count_trailing_zeros 64 w in
       let h : k < 64 = trailing_some 64 w small n in
       let L = lowest_first (bit_of (left_of i)) 64 in
       let is : k ≡ lowest (bit_of (left_of i)) 64 = ap (count_trailing_zeros 64) e ∙ trailing_lowest 64 (left_of i) in
-      sym (lowest_is (has_but a b) (record {
-        at_most = omega arith;
-        passes = λ _. but_bit i k h l ∙ ap (bit_of (left_of i)) is ∙ L.passes (omega arith);
-        below =
+      found_some (has_but a b)
+      (record {
+        within = omega arith;
+        none =
             λ t m.
             by_cases (dec_lt t (i * 64)) (λ (n : t < i * 64). P.none_so_far t n)
             (λ (n : ¬ (t < i * 64)).
             let at : i * 64 + t % 64 ≡ t = omega arith in
             let small : t % 64 < k = omega arith in
             ap (has_but a b) (sym at) ∙ but_bit i (t % 64) (omega arith) l ∙ L.below (t % 64) (omega arith));
-      }))
+      })
+      (omega arith)
+      (but_bit i k h l ∙ ap (bit_of (left_of i)) is ∙ L.passes (omega arith))

@@ -2,6 +2,7 @@
 use mathlib.Core.Path.{◌≡◌, sym, ◌∙◌}
 use mathlib.Core.Bool.{Bool}
 use Prim.Native.Nat.{ℕ}
+use Rattle.std.proofs.Common.{Option}
 use Rattle.sets.specs.declared.Set.{Set}
 use Rattle.sets.specs.Promise.{AnswersSetNone, AnswersHas, AnswersPut, AnswersLowestBut}
 
@@ -14,5 +15,5 @@ has_one a t e f = e ∙ sym f
 pub put_one : (a : Set) (t : ℕ) (on : Bool) {r s : Set} → AnswersPut a t on r → AnswersPut a t on s → r ≡ s
 put_one a t on e f = e ∙ sym f
 
-pub lowest_but_one : (a b : Set) {r s : ℕ} → AnswersLowestBut a b r → AnswersLowestBut a b s → r ≡ s
+pub lowest_but_one : (a b : Set) {r s : Option ℕ} → AnswersLowestBut a b r → AnswersLowestBut a b s → r ≡ s
 lowest_but_one a b e f = e ∙ sym f

@@ -3,11 +3,13 @@ use mathlib.Core.Path.{◌≡◌, refl, sym, ap, ◌∙◌}
 use mathlib.Core.Logic.{by_cases, ◌≢◌}
 use mathlib.Core.Bool.{Bool, true, false, cond, ◌&&◌, ◌||◌}
 use mathlib.Core.List.{List}
-use Prim.Native.Nat.{ℕ, zero, suc, ◌+◌, ◌*◌, ◌/◌, ◌%◌, ◌^◌, ◌≤◌, ◌<◌}
+use Prim.Native.Nat.{ℕ, zero, suc, ◌+◌, ◌-◌, ◌*◌, ◌/◌, ◌%◌, ◌^◌, ◌≤◌, ◌<◌}
 use native.Mathlib.Nat.{mod-lt}
 use native.Mathlib.Omega.{arith}
 use native.Mathlib.Decide.{dec_lt, ℕ_discrete}
+use lib.Bits.{bit_and, bit_xor, and_comm, and_self, xor_add_and}
 use lib.Count.{count_trailing_zeros}
+use Rattle.std.proofs.lemmas.Nat.{and-not, and_assoc}
 use lib.Dec.{lit<, eqb}
 use lib.Pow.{pow_pos}
 use lib.ListN.{get_or-eq_default, length, get_or, replicate, length-replicate, get_or-replicate}
@@ -46,6 +48,12 @@ put_beside : (word k j : ℕ) (on : Bool) → j ≢ k → bit_of (put_bit word k
 unfolding put_bit
 put_beside word k j true n = or_bit word (1 * 2 ^ k) j ∙ rw (other_bit k j n) (or_clear (bit_of word j))
 put_beside word k j false n = except_bit word (1 * 2 ^ k) j ∙ rw (other_bit k j n) (and_sure (bit_of word j))
+
+-- a word without another's bits, as `&` and `!` have it: with and without them it is the word
+pub except_is : (a b : ℕ) → a < 2 ^ 64 → b < 2 ^ 64 → bit_and a (2 ^ 64 - 1 - b) ≡ bit_xor a (bit_and a b)
+except_is a b ha hb =
+    let twice : bit_and a (bit_and a b) ≡ bit_and a b = sym (and_assoc b a a) ∙ ap (λ (x : ℕ). bit_and x b) (and_self a) in
+    omega (arith, and-not 64 b a hb ha, and_comm a b, and_comm a (2 ^ 64 - 1 - b), xor_add_and a (bit_and a b), twice)
 
 -- the zeros below the lowest bit of a word are its place
 digit_two : (d : ℕ) → d < 2 → (d ≡ 0 → ⊥) → d ≡ 1

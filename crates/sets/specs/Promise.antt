@@ -1,5 +1,5 @@
 -- What each public function promises.
-use Rattle.std.specs.Prelude.{◌≡◌, Bool, ℕ}
+use Rattle.std.specs.Prelude.{◌≡◌, Bool, Option, ℕ}
 use Rattle.sets.specs.declared.Set.{Set}
 use Rattle.sets.specs.Set.{has, none, put, lowest_but}
 
@@ -16,5 +16,5 @@ abbrev pub AnswersPut : (set : Set) (t : ℕ) (on : Bool) (r : Set) → Type 0
 AnswersPut set t on r = r ≡ put set t on
 
 -- `Set::lowest_but`
-abbrev pub AnswersLowestBut : (set other : Set) (r : ℕ) → Type 0
+abbrev pub AnswersLowestBut : (set other : Set) (r : Option ℕ) → Type 0
 AnswersLowestBut set other r = r ≡ lowest_but set other

@@ -1,7 +1,7 @@
 -- A set of threads: those below the limit whose bit is set.
-use Rattle.std.specs.Prelude.{Bool, cond, not, ◌&&◌, ℕ, ◌/◌, ltb, replicate}
+use Rattle.std.specs.Prelude.{Bool, cond, not, ◌&&◌, Option, ℕ, ◌/◌, ltb, replicate}
 use Rattle.tables.specs.Limits.{most_threads}
-use Rattle.tables.specs.Lowest.{lowest}
+use Rattle.tables.specs.Lowest.{found}
 use Rattle.sets.specs.declared.Set.{Set}
 use Rattle.sets.specs.Words.{in_words, put_at}
 
@@ -25,6 +25,6 @@ put s t on = cond (ltb t most_threads) (record { words = put_at s.words t on }) 
 abbrev pub has_but : Set → Set → ℕ → Bool
 has_but a b t = has a t && not (has b t)
 
--- the lowest such thread, or the limit
-abbrev pub lowest_but : Set → Set → ℕ
-lowest_but a b = lowest (has_but a b) most_threads
+-- the lowest such thread, if there is one
+abbrev pub lowest_but : Set → Set → Option ℕ
+lowest_but a b = found (has_but a b) most_threads

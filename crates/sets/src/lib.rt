@@ -1,8 +1,7 @@
 // A set of threads: bit t mod 64 of word ⌊t/64⌋ is set exactly when thread t is in it. No set has a thread past the limit.
 #![tactic(auto)]
 
-ghost use Rattle.std.specs.Prelude.{◌≡◌, ◌^◌, ◌<◌};
-ghost use Rattle.std.specs.Int.Bits.{bit_and, bit_xor};
+ghost use Rattle.std.specs.Prelude.{◌≡◌, ◌<◌};
 ghost use Rattle.sets.specs.Words.{put_bit};
 ghost use Rattle.sets.specs.Promise.{AnswersSetNone, AnswersHas, AnswersPut, AnswersLowestBut};
 
@@ -19,14 +18,7 @@ fn put_bit(word: u64, k: u64, on: bool) -> u64
     ensures { result ≡ put_bit word k on }
 {
     let bit = 1u64 << k;
-    if on { word | bit } else { word ^ (word & bit) }
-}
-
-// The bits of one word that are not in another.
-fn without(a: u64, b: u64) -> u64
-    ensures { (result ≡ bit_xor a (bit_and a b)) × (result < 2 ^ 64) }
-{
-    a ^ (a & b)
+    if on { word | bit } else { word & !bit }
 }
 
 impl Set {
@@ -64,18 +56,16 @@ impl Set {
         self
     }
 
-    // The lowest thread that is in it and not in another, or the limit.
-    pub fn lowest_but(self, other: Set) -> usize
+    // The lowest thread that is in it and not in another.
+    pub fn lowest_but(self, other: Set) -> Option<usize>
         ensures { AnswersLowestBut self other result }
     {
-        let mut i = 0;
-        while i < Set::WORDS {
-            let left = without(self.words[i], other.words[i]);
+        for i in 0..Set::WORDS {
+            let left = self.words[i] & !other.words[i];
             if left != 0 {
-                return i * 64 + u64::trailing_zeros(left) as usize;
+                return Some(i * 64 + left.trailing_zeros() as usize);
             }
-            i += 1;
         }
-        Table::THREADS
+        None
     }
 }

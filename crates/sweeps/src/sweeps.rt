@@ -7,33 +7,14 @@ ghost use Rattle.sweeps.specs.Needs.{Pass, AllTaken};
 
 use relation::{diagonal, join};
 
-// x, or the nearest number from `low` to `high`.
-fn clamp(low: usize, x: u32, high: usize) -> usize
-    requires { low ≤ high }
-    ensures { (low ≤ result) × (result ≤ high) }
-{
-    let n = x as usize;
-    if n < low {
-        return low;
-    }
-    if high < n {
-        return high;
-    }
-    n
-}
-
 // For each pair (i, k) from `first` to before `end`, the last of them first, row k is joined into row i. Has anything changed?
 fn sweep(room: &mut [u32], m: u32, pairs: &[u32], first: usize, end: usize) -> bool
     requires { (words m ≤ length room.old) × (first ≤ end) × (end ≤ pair_count pairs.now) }
     ensures { Pass (PairIn pairs.now m) m (PairBetween pairs.now first end) room.old room.new result }
 {
     let mut changed = false;
-    let mut e = end;
-    while first < e {
-        e -= 1;
-        let at = e * 2;
-        let joined = join(room, m, pairs[at], pairs[at + 1]);
-        changed = changed | joined;
+    for e in (first..end).rev() {
+        changed |= join(room, m, pairs[e * 2], pairs[e * 2 + 1]);
     }
     changed
 }
@@ -47,16 +28,12 @@ fn sweep_parts(room: &mut [u32], m: u32, pairs: &[u32], parts: &[u32]) -> bool
     let n = pairs.len() / 2;
     let mut changed = false;
     let mut first = 0;
-    let mut t = 0;
-    while t < parts.len() {
-        let end = clamp(first, parts[t], n);
-        let swept = sweep(room, m, pairs, first, end);
-        changed = changed | swept;
+    for part in parts {
+        let end = (*part as usize).clamp(first, n);
+        changed |= sweep(room, m, pairs, first, end);
         first = end;
-        t += 1;
     }
-    let rest = sweep(room, m, pairs, first, n);
-    changed | rest
+    changed | sweep(room, m, pairs, first, n)
 }
 
 // Sweeps until nothing changes: by turns over the pairs from the last on, and part after part. The first is quick where chains lead to later parts, the second where they lead to

@@ -2,12 +2,13 @@
 use mathlib.Core.Path.{◌≡◌, refl, sym, ap, ◌∙◌}
 use mathlib.Core.Logic.{by_cases}
 use mathlib.Core.List.{List}
-use Prim.Native.Nat.{ℕ, min, ◌+◌, ◌≤◌, ◌<◌}
-use native.Mathlib.Decide.{ℕ_discrete}
+use Prim.Native.Nat.{ℕ, min, ◌+◌, ◌-◌, ◌≤◌, ◌<◌}
+use native.Mathlib.Decide.{dec_lt}
 use native.Mathlib.Omega.{arith}
 use lib.Dec.{eqb}
-use lib.ListN.{length, get_or, set, length-set}
-use lib.Seq.{get_or-set_same, get_or-set_other}
+use lib.ListN.{length, get_or, take, drop, replicate, length-replicate, length-drop, get_or-append, get_or-replicate}
+use borrow.Rule.Slice.PartMut.{mid_of, put_mid, same_len_mid}
+use Rattle.std.proofs.lemmas.List.{get_or-take, length-take-le, get_or-append_right}
 use Rattle.tables.specs.Rows.{first_row, thread_of, is_first}
 use Rattle.tables.specs.Heads.{head_of, own_head, Heads, Headed}
 use Rattle.tables.specs.Needs.{FilledTo, Fills}
@@ -15,23 +16,28 @@ use Rattle.tables.proofs.Rows.{first_none, first_next, first_all, only, past_hea
 
 -- ---- a room that is filled by one store after another
 
-filled_more : {after : List ℕ} {n v : ℕ} {f : ℕ → ℕ} {before : List ℕ} → n < length before → f n ≡ v → FilledTo f n before after
-    → FilledTo f (n + 1) before (set after n v)
-filled_more {after} {n} {v} l e F = record {
-  len = length-set after n v ∙ F.len;
-  done = λ c h.
-      by_cases (ℕ_discrete c n) (λ (s : c ≡ n). rw s (get_or-set_same after n v 0 (omega arith) ∙ sym e))
-      (λ (d : ¬ (c ≡ n)). get_or-set_other after n c v 0 d ∙ F.done c (omega arith));
+-- a part that is filled with one number
+pub fills_part : (from to head : ℕ) (before part : List ℕ) → from ≤ to → to ≤ length before
+    → part ≡ replicate (length (mid_of from (to - from) before)) head → Fills from to head before (put_mid from (to - from) before part)
+fills_part from to head before part low high e f old says F = record {
+  len = same_len_mid from (to - from) before part (ap length e ∙ length-replicate _ _) ∙ F.len;
+  done = λ c l.
+      by_cases (dec_lt c from)
+      (λ (m : c < from). get_or-append (take from before) _ 0 c (omega (arith, pre)) ∙ get_or-take from before c 0 m ∙ F.done c m)
+      (λ (m : ¬ (c < from)).
+      get_or-append_right (take from before) _ from c 0 pre (omega arith) ∙ get_or-append part _ 0 (c - from) (omega (arith, long))
+      ∙ ap (λ (p : List ℕ). get_or p (c - from) 0) e ∙ get_or-replicate _ (c - from) head 0 (omega (arith, mid))
+      ∙ sym (says c (omega arith) l));
 }
+  where
+    pre : length (take from before) ≡ from
+    pre = length-take-le from before (omega arith)
 
-pub fills_none : (from head : ℕ) (room : List ℕ) → Fills from from head room room
-fills_none from head room f old says F = F
+    mid : length (mid_of from (to - from) before) ≡ to - from
+    mid = length-take-le (to - from) (drop from before) (omega (arith, length-drop from before))
 
-pub fills_more : (from n head : ℕ) (before after : List ℕ) → from ≤ n → n < length after → Fills from n head before after
-    → Fills from (n + 1) head before (set after n head)
-fills_more from n head before after low high G f old says F =
-    let H = G f old (λ c a b. says c a (omega arith)) F in
-    filled_more (omega arith) (says n low (omega arith)) H
+    long : length part ≡ to - from
+    long = ap length e ∙ length-replicate _ _ ∙ mid
 
 -- ---- the heads, thread by thread
 

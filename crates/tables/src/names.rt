@@ -7,15 +7,8 @@ ghost use Rattle.tables.specs.Promise.{AnswersSameName};
 fn name_of(commands: &[u32], c: usize) -> u32
     ensures { result ≡ name commands.now c }
 {
-    let numbers = commands.len();
-    if numbers <= c {
-        return 0;
-    }
-    let at = c * 3 + 1;
-    if numbers <= at {
-        return 0;
-    }
-    commands[at]
+    let at = c.saturating_mul(3).saturating_add(1);
+    commands.get(at).copied().unwrap_or(0)
 }
 
 // Have rows i and j the same barrier, or the same address?

@@ -3,7 +3,7 @@
 pub struct Table;
 
 impl Table {
-    // the kinds of a row
+    // the kinds of a row: numbers, since a row is three numbers of C (R2) and any number may stand in one
     pub const READ: u32 = 0;
 
     pub const WRITE: u32 = 1;

@@ -1,10 +1,9 @@
--- `more` meets its contract, by its test. Assumes nothing.
-use mathlib.Core.Path.{sym}
-use Rattle.barriers.proofs.Registering.{counted_more, counted_top}
+-- `more` meets its contract: below its largest the sum fits. Assumes nothing.
+use native.Mathlib.Omega.{arith}
+use Rattle.std.proofs.lemmas.Bool.Decides.{nat_tests}
+use Rattle.barriers.specs.Counting.{counted}
 use Rattle.barriers.proofs.counting.more.Goals as goal
 
-pub returns-then-n-lt4294967295 : goal.returns-then-n-lt4294967295
-returns-then-n-lt4294967295 c = sym (counted_more _ c.if-n-lt4294967295.true)
-
-pub returns-else-n-lt4294967295 : goal.returns-else-n-lt4294967295
-returns-else-n-lt4294967295 c = counted_top _ c.if-n-lt4294967295.false
+pub returns : goal.returns
+unfolding counted
+returns c = grind (arith, nat_tests)

@@ -1,7 +1,6 @@
 -- A place that is there has its rows joined, and for any other nothing is. Assumes nothing.
-use mathlib.Core.Path.{refl, sym, ◌∙◌}
+use mathlib.Core.Path.{sym, ◌∙◌}
 use lib.ListN.{length}
-use Rattle.relation.proofs.Truth.{clashing}
 use Rattle.relation.proofs.Rooms.{place, row_in}
 use Rattle.relation.proofs.table.join.Goals as goal
 
@@ -11,13 +10,3 @@ join_row-requires c =
     let n = length a.room.now in
     let I = place n a.m a.i a.k (sym c.has_place.ensures ∙ c.if-has_place.true) in
     rw c.row_words.ensures (record { into = row_in n _ a.m a.i I.fits I.from; from = row_in n _ a.m a.k I.fits I.to })
-
-pub returns-then-has_place : goal.returns-then-has_place
-returns-then-has_place c =
-    let e = sym c.has_place.ensures ∙ c.if-has_place.true in
-    record { outside = λ f. clashing e f; within = λ x. rw (sym c.row_words.ensures) c.join_row.ensures }
-
-pub returns : goal.returns
-returns c =
-    let e = sym c.has_place.ensures ∙ c.if-has_place.false in
-    record { outside = λ f. (refl, refl); within = λ x. clashing x e }

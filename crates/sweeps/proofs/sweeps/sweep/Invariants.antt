@@ -5,7 +5,4 @@ use Rattle.sweeps.specs.Needs.{Pass}
 use Rattle.sweeps.proofs.sweeps.sweep.Given as goal
 
 abbrev pub invariant-loop-e : goal.invariant-loop-e
-invariant-loop-e l = (l.first ≤ l.e) × (l.e ≤ l.end) × Pass (PairIn l.pairs l.m) l.m (PairBetween l.pairs l.e l.end) l.initial.room l.room l.changed
-
-abbrev pub decreases-loop-e : goal.decreases-loop-e
-decreases-loop-e l = l.e
+invariant-loop-e l = (l.first ≤ l.e) × Pass (PairIn l.pairs l.m) l.m (PairBetween l.pairs l.e l.end) l.initial.room l.room l.changed

@@ -1,14 +1,20 @@
+use native.Mathlib.Omega.{arith}
 use mathlib.Core.Path.{refl}
-use borrow.Author.Rules.{rules}
-use Rattle.tables.proofs.Filling.{begun_none, begun_more, begun_all}
+use lib.ListN.{length}
+use Rattle.tables.proofs.Filling.{begun_none, begun_more, begun_all, fills_part}
 use Rattle.tables.proofs.heads.put_heads.Goals as goal
 
-pub loop-t-init : goal.loop-t-init
-loop-t-init c = begun_none _ _
+pub loop-length-init : goal.loop-length-init
+loop-length-init c = begun_none _ _
 
-pub loop-t-preserved : goal.loop-t-preserved
-loop-t-preserved c =
-    begun_more (search rules) (search rules) (search rules) c.loop-t.invariant c.fill.ensures
+pub loop-length-preserved : goal.loop-length-preserved
+loop-length-preserved c =
+    let l = c.loop-length in
+    begun_more c.loop-length-test.true (omega arith) refl l.invariant
+    (fills_part l.head c.min-end.result l.head l.heads c.fill.new.self (omega arith) (omega arith) (c.fill.ensures.after (λ y h. h)))
 
 pub returns : goal.returns
-returns c = begun_all (search rules) refl c.loop-t.invariant c.fill-2.ensures
+returns c =
+    let l = c.loop-length in
+    begun_all {room = length l.heads} c.loop-length-test.false (omega arith) l.invariant
+    (fills_part l.head (length l.heads) l.head l.heads c.fill-2.new.self (omega arith) (omega arith) (c.fill-2.ensures.after (λ y h. h)))
