@@ -1,20 +1,10 @@
 use mathlib.Core.Path.{◌≡◌, refl, sym, ap, ◌∙◌}
 use native.Mathlib.Omega.{arith}
-use denote.Enum.Declared.{tag_of}
 use borrow.Author.Tests.{eq-eqb, ne_eqb}
-use Rattle.spelling.specs.contracts.bytes.Class.{the_type}
-use Rattle.spelling.specs.declared.bytes.Class.{Class}
-use Rattle.spelling.specs.declared.bytes.Class.TheVariants.{Blank, Letter, Digit, Other}
 use Rattle.spelling.specs.Bytes.{code, numbered}
+use Rattle.spelling.proofs.Classes.{tag_code}
 use Rattle.spelling.proofs.Scans.{run_on, run_off, run_out}
 use Rattle.spelling.proofs.bytes.run_of.Goals as goal
-
--- a class by its number in the code
-tag_code : (k : Class) → tag_of the_type k ≡ code k
-tag_code Blank = refl
-tag_code Letter = refl
-tag_code Digit = refl
-tag_code Other = refl
 
 pub returns-then-class_of-class : goal.returns-then-class_of-class
 returns-then-class_of-class c =

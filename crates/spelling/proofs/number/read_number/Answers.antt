@@ -71,8 +71,8 @@ returns c =
     let o = c.loop-byte-test.false in
     sym (means_number w l.value (record {
       digits = omega (arith, l.invariant.0, l.auto.byte-index-end, o, run_out (is digit) w l.byte-index o);
-      some = elim c.if-bytes-lt2.branch [ in_default w ↦ omega (arith, w.in_default.len_at_least) | in_default-2 w ↦ omega (arith, w.in_default.len_at_least) ];
-      leading = λ z. elim c.if-bytes-lt2.branch [ in_default w ↦ omega (arith, w.in_default.len_at_least, w.in_default.len_below) | in_default-2 w ↦ absurd (omega arith) ];
+      some = grind arith;
+      leading = λ z. grind arith;
       value = sym l.invariant.1 ∙ decimal_out l.value w l.byte-index o;
       small = l.invariant.2;
     }))
