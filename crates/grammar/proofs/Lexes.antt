@@ -8,11 +8,12 @@ use Prim.Native.Nat.{ℕ, ◌<◌}
 use native.Mathlib.Omega.{arith}
 use lib.ListN.{length, get_or, take, drop}
 use lib.Seq.{take-append_seam}
-use borrow.Author.Tests.{eqb-true}
 use Rattle.tables.specs.Rows.{read, write, arrive, sync}
+use Rattle.spelling.specs.declared.bytes.Class.{Class}
 use Rattle.spelling.specs.Bytes.{class_of, is, blank, letter, digit, run, blanks}
 use Rattle.spelling.specs.Words.{same_bytes}
 use Rattle.spelling.specs.Numbers.{Means}
+use Rattle.spelling.proofs.Classes.{class_is}
 use Rattle.spelling.proofs.Runs.{run_none, run_none_at, run_whole, run_stops}
 use Rattle.spelling.proofs.Numbers.{means_number}
 use Rattle.grammar.specs.declared.tokens.Token.{Token}
@@ -62,10 +63,10 @@ some =
     by_spelling (λ w t. 0 < length w) (omega arith) (omega arith) (omega arith) (omega arith) (omega arith) (λ w n m. m.some) (omega arith) (omega arith)
 
 -- bytes of one class throughout begin with a byte of it
-first : (k : ℕ) (w s : List ℕ) → 0 < length w → run (is k) w ≡ length w → k ≡ class_of (get_or (w ++ s) 0 0)
+first : (k : Class) (w s : List ℕ) → 0 < length w → run (is k) w ≡ length w → k ≡ class_of (get_or (w ++ s) 0 0)
 first k [] s h e = absurd (omega arith)
 first k (b ∷ w) s h e =
-    ⊎_elim (λ (f : is k b ≡ false). absurd (omega (arith, run_none (is k) b w f))) (λ (f : is k b ≡ true). sym (eqb-true (class_of b) k f)) (dichotomy (is k b))
+    ⊎_elim (λ (f : is k b ≡ false). absurd (omega (arith, run_none (is k) b w f))) (λ (f : is k b ≡ true). class_is k b f) (dichotomy (is k b))
 
 word_found : (w s : List ℕ) (t : Token) → 0 < length w → run (is letter) w ≡ length w → t ≡ word_of w → run (is letter) s ≡ 0
     → sized t (length w) ≡ piece_of (w ++ s)

@@ -2,6 +2,7 @@
 use mathlib.Core.Path.{◌≡◌, refl, ap, sym, ◌∙◌}
 use mathlib.Core.Bool.{Bool, true, false, cond, ◌&&◌, and-false, true≢false}
 use mathlib.Core.List.{List, [], ◌∷◌}
+use Rattle.std.specs.Prelude.{Option, Some, None}
 use Prim.Native.Nat.{ℕ, ◌+◌, ◌-◌, ◌≤◌, ◌<◌}
 use native.Mathlib.Omega.{arith}
 use lib.Dec.{eqb}
@@ -12,8 +13,8 @@ use Rattle.tables.specs.Rows.{read, write, arrive, sync}
 use Rattle.spelling.specs.Bytes.{class_of, is, blank, letter, digit, run, blanks}
 use Rattle.spelling.specs.Words.{same_bytes}
 use Rattle.spelling.specs.Numbers.{numeral_of, Means}
-use Rattle.spelling.specs.declared.number.Numeral.{Numeral}
-use Rattle.spelling.specs.declared.number.Numeral.TheVariants as N
+use Rattle.spelling.specs.declared.bytes.Class.{Class}
+use Rattle.spelling.proofs.Classes.{is_other}
 use Rattle.spelling.proofs.Runs.{run_pos_at, run_le}
 use Rattle.spelling.proofs.Words.{both, alike_same}
 use Rattle.spelling.proofs.Numbers.{number_means}
@@ -32,16 +33,8 @@ unfolding word_of
 word_is w a b c d e p q r s t = rw (p, q, r, s, t)
 
 module _ (s : List ℕ) where
-  pub semi_is : get_or s 0 0 ≡ 59 → sized Semi 1 ≡ mark_of s
-  unfolding mark_of
-  semi_is e = rw e
-
-  pub mark_is : (get_or s 0 0 ≡ 59 → ⊥) → (a : Bool) → (eqb (get_or s 0 0) 124 && eqb (get_or s 1 0) 124) ≡ a → cond a (sized Bars 2) (sized Misfit 1) ≡ mark_of s
-  unfolding mark_of
-  mark_is n a e = rw (ne_eqb (get_or s 0 0) 59 n, e)
-
   -- k is the class of the first byte
-  module _ (k : ℕ) (c : k ≡ class_of (get_or s 0 0)) where
+  module _ (k : Class) (c : k ≡ class_of (get_or s 0 0)) where
     pub word_piece : k ≡ letter → (n : ℕ) → n ≡ run (is k) s → (t : Token) → t ≡ word_of (take n s) → sized t n ≡ piece_of s
     unfolding piece_of
     word_piece l n r t e = rw (← c, l, e, r, l)
@@ -52,7 +45,7 @@ module _ (s : List ℕ) where
 
     pub mark_piece : (k ≡ letter → ⊥) → (k ≡ digit → ⊥) → mark_of s ≡ piece_of s
     unfolding piece_of
-    mark_piece n m = rw (← c, ne_eqb k letter n, ne_eqb k digit m)
+    mark_piece n m = rw (is_other k letter (get_or s 0 0) c n, is_other k digit (get_or s 0 0) c m)
 
 -- a property of a word's token holds of every one, once it holds of each word and of a misfit; so for numbers and pieces
 by_test : {A : Type 0} (P : A → Type 0) (t : Bool) {x y : A} → (t ≡ true → P x) → (t ≡ false → P y) → P (cond t x y)
@@ -70,9 +63,9 @@ by_word P w a b c d e m =
 pub by_number : (P : Token → Type 0) (w : List ℕ) → ((n : ℕ) → Means w n → P (Number n)) → P Misfit → P (number_of w)
 by_number P w f m = by_numeral (numeral_of w) refl
   where
-    by_numeral : (x : Numeral) → numeral_of w ≡ x → P (numeral x)
-    by_numeral (N.Number n) e = f n (number_means w n e)
-    by_numeral N.NotNumber e = m
+    by_numeral : (x : Option ℕ) → numeral_of w ≡ x → P (numeral x)
+    by_numeral (Some n) e = f n (number_means w n e)
+    by_numeral None e = m
 
 pub by_piece : (P : Piece → Type 0) (s : List ℕ)
     → (is letter (get_or s 0 0) ≡ true → P (sized (word_of (take (run (is letter) s) s)) (run (is letter) s)))

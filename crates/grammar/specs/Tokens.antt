@@ -1,12 +1,10 @@
 -- The token that bytes begin with, and the token at a place of a text (R43).
-use Rattle.std.specs.Prelude.{cond, ◌&&◌, List, ℕ, ◌+◌, eqb, length, get_or, take, drop}
+use Rattle.std.specs.Prelude.{cond, ◌&&◌, Option, Some, None, List, ℕ, ◌+◌, eqb, length, get_or, take, drop}
 use Rattle.tables.specs.Rows.{read, write, arrive, sync}
 use Rattle.spelling.specs.Bytes.{is, letter, digit, run, blanks, skip}
 use Rattle.spelling.specs.Words.{same_bytes}
 use Rattle.spelling.specs.Numbers.{numeral_of}
 use Rattle.spelling.specs.Tokens as T
-use Rattle.spelling.specs.declared.number.Numeral.{Numeral}
-use Rattle.spelling.specs.declared.number.Numeral.TheVariants as N
 use Rattle.grammar.specs.declared.tokens.Token.{Token}
 use Rattle.grammar.specs.declared.tokens.Token.TheVariants.{Access, Signal, Return, Number, Semi, Bars, Misfit}
 use Rattle.grammar.specs.declared.tokens.Piece.{Piece}
@@ -21,9 +19,9 @@ word_of w =
     (cond (same_bytes w write_word) (Access write)
     (cond (same_bytes w arrive_word) (Signal arrive) (cond (same_bytes w sync_word) (Signal sync) (cond (same_bytes w return_word) Return Misfit))))
 
-abbrev pub numeral : Numeral → Token
-numeral (N.Number n) = Number n
-numeral N.NotNumber = Misfit
+abbrev pub numeral : Option ℕ → Token
+numeral (Some n) = Number n
+numeral None = Misfit
 
 abbrev pub number_of : List ℕ → Token
 number_of w = numeral (numeral_of w)

@@ -19,7 +19,7 @@ pub enum State {
     Parting,
 }
 
-// What a token does: it doesn't fit; it leads on; it completes a row, or a thread.
+// What a token does: it doesn't fit; it leads on; it completes a row, or a thread. A refusal is one of four that are matched at once, which an Option would take two matches for.
 #[derive(Clone, Copy)]
 pub enum TokenMove {
     Refuse,
@@ -32,33 +32,17 @@ pub enum TokenMove {
 pub fn take_token(state: State, token: Token) -> TokenMove
     ensures { AnswersTakeToken state token result }
 {
-    match state {
-        State::Word => match token {
-            Token::Access(kind) => TokenMove::On(State::Address(kind)),
-            Token::Signal(kind) => TokenMove::On(State::Barrier(kind)),
-            Token::Return => TokenMove::Thread,
-            _ => TokenMove::Refuse,
-        },
-        State::Address(kind) => match token {
-            Token::Number(address) => TokenMove::Row(kind, address, 0),
-            _ => TokenMove::Refuse,
-        },
-        State::Barrier(kind) => match token {
-            Token::Number(barrier) => TokenMove::On(State::Count(kind, barrier)),
-            _ => TokenMove::Refuse,
-        },
-        State::Count(kind, barrier) => match token {
-            Token::Number(count) => TokenMove::Row(kind, barrier, count),
-            _ => TokenMove::Refuse,
-        },
-        State::Close => match token {
-            Token::Semi => TokenMove::On(State::Word),
-            _ => TokenMove::Refuse,
-        },
-        State::Parting => match token {
-            Token::Bars => TokenMove::On(State::Word),
-            _ => TokenMove::Refuse,
-        },
+    match (state, token) {
+        (State::Word, Token::Access(kind)) => TokenMove::On(State::Address(kind)),
+        (State::Word, Token::Signal(kind)) => TokenMove::On(State::Barrier(kind)),
+        (State::Word, Token::Return) => TokenMove::Thread,
+        (State::Address(kind), Token::Number(address)) => TokenMove::Row(kind, address, 0),
+        (State::Barrier(kind), Token::Number(barrier)) => TokenMove::On(State::Count(
+            kind, barrier,
+        )),
+        (State::Count(kind, barrier), Token::Number(count)) => TokenMove::Row(kind, barrier, count),
+        (State::Close, Token::Semi) | (State::Parting, Token::Bars) => TokenMove::On(State::Word),
+        _ => TokenMove::Refuse,
     }
 }
 
@@ -66,8 +50,5 @@ pub fn take_token(state: State, token: Token) -> TokenMove
 pub fn may_end(state: State) -> bool
     ensures { AnswersMayEnd state result }
 {
-    match state {
-        State::Parting => true,
-        _ => false,
-    }
+    matches!(state, State::Parting)
 }

@@ -3,9 +3,10 @@ ghost use Rattle.std.specs.Prelude.{◌≡◌, ◌<◌, length};
 ghost use Rattle.grammar.specs.Tokens.{word_of, number_of, mark_of, piece_of};
 ghost use Rattle.grammar.specs.Promise.{AnswersTokenAt};
 
-use spelling::{Byte, Numeral, class_of, read_number, run_of, same};
+use spelling::{Class, class_of, read_number, run_of, same};
 use tables::Table;
 
+// A kind is a number, for it is one of a lent table's, and `take_token` answers for any.
 #[derive(Clone, Copy)]
 pub enum Token {
     // `read` and `write`, by the kind of their row
@@ -27,7 +28,8 @@ pub(crate) struct Piece {
     pub(crate) size: usize,
 }
 
-// What stands at a place after its blanks: the end, or a token with its first byte's place and the place past it.
+// What stands at a place after its blanks: the end, or a token with its first byte's place and the place past it. An end has a place, and is no error: neither an Option
+// nor a Result says so.
 #[derive(Clone, Copy)]
 pub enum Met {
     End(usize),
@@ -58,33 +60,21 @@ fn word(bytes: &[u8]) -> Token
 fn number(bytes: &[u8]) -> Token
     ensures { result ≡ number_of bytes.now }
 {
-    match read_number(bytes) {
-        Numeral::Number(n) => Token::Number(n),
-        Numeral::NotNumber => Token::Misfit,
-    }
+    read_number(bytes).map_or(Token::Misfit, Token::Number)
 }
 
 // A mark, or one byte that is none.
+#[tactic(auto, unfolding(crate::specs::Tokens::mark_of))]
 fn mark(bytes: &[u8]) -> Piece
     requires { 0 < length bytes.now }
     ensures { result ≡ mark_of bytes.now }
 {
-    if bytes[0] == b';' {
-        return Piece {
-            token: Token::Semi,
-            size: 1,
-        };
-    }
-    if (bytes.len() != 1) && (bytes[0] == b'|') && (bytes[1] == b'|') {
-        return Piece {
-            token: Token::Bars,
-            size: 2,
-        };
-    }
-    Piece {
-        token: Token::Misfit,
-        size: 1,
-    }
+    let (token, size) = match bytes {
+        [b';', ..] => (Token::Semi, 1),
+        [b'|', b'|', ..] => (Token::Bars, 2),
+        _ => (Token::Misfit, 1),
+    };
+    Piece { token, size }
 }
 
 // The token that the bytes begin with.
@@ -93,17 +83,18 @@ fn first_token(bytes: &[u8]) -> Piece
     ensures { result ≡ piece_of bytes.now }
 {
     let class = class_of(bytes[0]);
-    if class == Byte::LETTER {
-        let size = run_of(bytes, class);
-        let token = word(&bytes[..size]);
-        return Piece { token, size };
+    let run = &bytes[..run_of(bytes, class as u32)];
+    match class {
+        Class::Letter => Piece {
+            token: word(run),
+            size: run.len(),
+        },
+        Class::Digit => Piece {
+            token: number(run),
+            size: run.len(),
+        },
+        _ => mark(bytes),
     }
-    if class == Byte::DIGIT {
-        let size = run_of(bytes, class);
-        let token = number(&bytes[..size]);
-        return Piece { token, size };
-    }
-    mark(bytes)
 }
 
 // The token at a place; past the text it is the end there.
@@ -113,7 +104,7 @@ pub fn token_at(text: &[u8], at: usize) -> Met
     if text.len() < at {
         return Met::End(at);
     }
-    let from = at + run_of(&text[at..], Byte::BLANK);
+    let from = at + run_of(&text[at..], Class::Blank as u32);
     if from == text.len() {
         return Met::End(from);
     }

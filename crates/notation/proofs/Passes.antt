@@ -4,6 +4,7 @@ use mathlib.Core.Path.{◌≡◌, refl, ap, sym, ◌∙◌}
 use mathlib.Core.Bool.{true, false, cond}
 use mathlib.Core.List.{List, [], ◌∷◌}
 use mathlib.Core.Option.{none, some}
+use Rattle.std.specs.Prelude.{Ok, Err}
 use Prim.Native.Nat.{ℕ, suc, ◌+◌, ◌*◌, ◌≤◌, ◌<◌}
 use native.Mathlib.Numerals.{add-one}
 use native.Mathlib.Omega.{arith}
@@ -18,11 +19,9 @@ use Rattle.grammar.specs.declared.automaton.State.{State}
 use Rattle.grammar.specs.declared.automaton.State.TheVariants.{Word, Close, Parting}
 use Rattle.grammar.specs.declared.automaton.TokenMove.{TokenMove}
 use Rattle.grammar.specs.declared.automaton.TokenMove.TheVariants as Do
-use Rattle.notation.specs.declared.scan.Scanned.{Scanned}
-use Rattle.notation.specs.declared.scan.Scanned.TheVariants.{Refused, Passed}
 use Rattle.grammar.specs.Tokens.{token_at}
 use Rattle.grammar.specs.Automaton.{token_moves, may_end, move}
-use Rattle.notation.specs.Reading.{read_of, row_numbers, thread_lengths, scanned_by, scanned_of}
+use Rattle.notation.specs.Reading.{read_of, row_numbers, thread_lengths, sizes, Scanned, scanned_by, scanned_of}
 use Rattle.notation.specs.Needs.{Rooms}
 use Rattle.notation.proofs.Along.{starts_from, found_from, met_end, met_token, found_end, found_token, judged_further}
 
@@ -50,14 +49,14 @@ module _ {text : List ℕ} {at : ℕ} {s : State} {m t : ℕ} (J : Judging text 
         let E = met_end text at J.inside from e in
         rw (E.starts, found_end text at J.inside E s J.n) at J.same
 
-    pub judging_passed : may_end s ≡ true → Passed m t ≡ scanned_of text
+    pub judging_passed : may_end s ≡ true → Ok (sizes m t) ≡ scanned_of text
     judging_passed q =
         let x : m + 0 ≡ m = omega arith in
         let y : t + 0 ≡ t = omega arith in
         rw (q, x, y) at ends
 
-    pub judging_short : may_end s ≡ false → Refused from ≡ scanned_of text
-    judging_short q = ap Refused (met_end text at J.inside from e).place ∙ rw q at ends
+    pub judging_short : may_end s ≡ false → Err from ≡ scanned_of text
+    judging_short q = ap Err (met_end text at J.inside from e).place ∙ rw q at ends
 
   module _ {tok : Token} {from nxt : ℕ} (e : token_at text at ≡ M.Token tok from nxt) where
     goes : (v : TokenMove) → token_moves s tok ≡ v
@@ -69,7 +68,7 @@ module _ {text : List ℕ} {at : ℕ} {s : State} {m t : ℕ} (J : Judging text 
     pub judging_further : (at < nxt) × (nxt ≤ length text) × (at < length text)
     judging_further = (met_token text at J.inside tok from nxt e).further
 
-    pub judging_refused : token_moves s tok ≡ Do.Refuse → Refused from ≡ scanned_of text
+    pub judging_refused : token_moves s tok ≡ Do.Refuse → Err from ≡ scanned_of text
     judging_refused q = goes Do.Refuse q
 
     pub judging_on : {u : State} → token_moves s tok ≡ Do.On u → Judging text nxt u m t

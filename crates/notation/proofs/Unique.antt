@@ -4,7 +4,7 @@ use mathlib.Core.List.{List}
 use Prim.Native.Nat.{ℕ}
 use denote.Ref.{Bor}
 use Rattle.verdicts.specs.declared.Told.{Told}
-use Rattle.notation.specs.declared.reading.Reading.{Reading}
+use Rattle.notation.specs.Reading.{Reading}
 use Rattle.notation.specs.Promise.{AnswersReadingTold, AnswersRestOf}
 
 pub reading_told_one : (reading : Reading) {r s : Told} → AnswersReadingTold reading r → AnswersReadingTold reading s → r ≡ s

@@ -1,17 +1,17 @@
 -- What a reading promises: by equation with the reader's definition, and by the grammar, without the automaton (D1, D2, R42, R47 to R51).
-use Rattle.std.specs.Prelude.{◌≡◌, ◌⊎◌, List, ℕ, ◌*◌, ◌≤◌, ◌<◌, length}
+use Rattle.std.specs.Prelude.{◌≡◌, ◌⊎◌, Ok, Err, List, ℕ, ◌*◌, ◌≤◌, ◌<◌, length}
 use Rattle.std.specs.Borrow.{Bor}
 use Rattle.verdicts.specs.declared.Told.{Told}
 use Rattle.tables.specs.Limits.{most_rows, most_threads}
 use Rattle.spelling.specs.Machine.{flat}
 use Rattle.spelling.specs.Refusal as R
 use Rattle.tables.specs.Over.{over}
-use Rattle.notation.specs.declared.reading.Reading.{Reading}
-use Rattle.notation.specs.declared.reading.Reading.TheVariants.{Unfit, Over, Accepted}
+use Rattle.notation.specs.declared.scan.Sizes.{Sizes}
+use Rattle.notation.specs.declared.reading.Unread.TheVariants.{Unfit, Over}
 use Rattle.grammar.specs.Grammar.{Listing, Denotes, Spells, Whole, all_commands, threads, listing_rows, listing_lengths}
 use Rattle.grammar.specs.Tokens.{tokens, starts}
 use Rattle.reader.specs.Places.{ahead}
-use Rattle.notation.specs.Reading.{most_bytes, row_numbers, thread_lengths, answered, reading, written, rest_at, rest_of}
+use Rattle.notation.specs.Reading.{most_bytes, row_numbers, thread_lengths, Reading, sizes, answered, reading, written, rest_at, rest_of}
 
 -- a listing within the limits of a reading (R47, R50)
 pub record Within (text : List ℕ) (c l : ℕ) (x : Listing) : Type 0 where
@@ -23,7 +23,7 @@ pub record Within (text : List ℕ) (c l : ℕ) (x : Listing) : Type 0 where
 
 -- the reading is that listing's two tables, and how many commands and threads they have (R51)
 pub record GivesTables (commands lengths commands' lengths' : List ℕ) (r : Reading) (x : Listing) : Type 0 where
-  pub many : r ≡ Accepted (length (all_commands (threads x))) (length (threads x))
+  pub many : r ≡ Ok (sizes (length (all_commands (threads x))) (length (threads x)))
   pub rows : commands' ≡ over (flat (listing_rows x)) commands
   pub lens : lengths' ≡ over (listing_lengths x) lengths
 
@@ -36,15 +36,15 @@ pub record ByGrammar (text commands lengths commands' lengths' : List ℕ) (r : 
   -- a text that denotes a listing within the limits is read as that listing (R51)
   pub accepts : (x : Listing) → Denotes text x → Within text (length commands) (length lengths) x → GivesTables commands lengths commands' lengths' r x
   -- what is accepted denotes one
-  pub accepted : (m t : ℕ) → r ≡ Accepted m t → (x : Listing) × Denotes text x × Within text (length commands) (length lengths) x
+  pub accepted : (s : Sizes) → r ≡ Ok s → (x : Listing) × Denotes text x × Within text (length commands) (length lengths) x
   -- 12 exactly at the place where a text that is not too long is refused (R48)
-  pub refuses : (p : ℕ) → r ≡ Unfit p → (length text ≤ most_bytes) × (p ≤ length text) × RefusedAt text p
-  pub refused : (p : ℕ) → length text ≤ most_bytes → RefusedAt text p → r ≡ Unfit p
+  pub refuses : (p : ℕ) → r ≡ Err (Unfit p) → (length text ≤ most_bytes) × (p ≤ length text) × RefusedAt text p
+  pub refused : (p : ℕ) → length text ≤ most_bytes → RefusedAt text p → r ≡ Err (Unfit p)
   -- 13 for a text that is too long (R47), or denotes a listing that is not within the limits (R50)
-  pub too_much : r ≡ Over
+  pub too_much : r ≡ Err Over
       → (most_bytes < length text) ⊎ ((x : Listing) × Denotes text x × ¬ Within text (length commands) (length lengths) x)
   -- both tables are untouched by 12 and 13 (D1, R51)
-  pub untouched : ((m t : ℕ) → ¬ (r ≡ Accepted m t)) → (commands' ≡ commands) × (lengths' ≡ lengths)
+  pub untouched : ((s : Sizes) → ¬ (r ≡ Ok s)) → (commands' ≡ commands) × (lengths' ≡ lengths)
 
 -- The promise by equation, and by the grammar (D1, D2).
 pub record Read (text commands lengths commands' lengths' : List ℕ) (r : Reading) : Type 0 where
@@ -53,7 +53,7 @@ pub record Read (text commands lengths commands' lengths' : List ℕ) (r : Readi
   pub lengths_hold : lengths' ≡ written r (thread_lengths text) lengths
   pub by_grammar : ByGrammar text commands lengths commands' lengths' r
 
--- `Reading::told`: a refusal's number and place, or 0 (R42)
+-- `told`: a refusal's number and place, or 0 (R42)
 abbrev pub AnswersReadingTold : (reading : Reading) (r : Told) → Type 0
 AnswersReadingTold reading r = r ≡ (answered reading).told
 

@@ -3,7 +3,7 @@ ghost use Rattle.std.specs.Prelude.{◌≡◌};
 ghost use Rattle.notation.specs.Reading.{is_too_many};
 ghost use Rattle.notation.specs.Promise.{Read, AnswersReadingTold, AnswersRestOf};
 
-use crate::scan::{Scanned, scan, write};
+use crate::scan::{Sizes, scan, write};
 use reader::rest_from;
 use tables::Table;
 use verdicts::Told;
@@ -16,36 +16,28 @@ impl Text {
     pub const BYTES: usize = 32768;
 }
 
-// Refusal 12 with its place; refusal 13; or the numbers of commands and threads.
-#[derive(Clone, Copy)]
-pub enum Reading {
+// Why a text is not read: refusal 12 with its place; refusal 13.
+#[derive(Clone, Copy, PartialEq, Eq)]
+pub enum Unread {
     Unfit(usize),
     Over,
-    Accepted(usize, usize),
 }
 
-impl Reading {
-    // A refusal's number and place; 0 where the text was accepted.
-    pub fn told(self) -> Told
-        ensures { AnswersReadingTold self result }
-    {
-        match self {
-            Reading::Unfit(place) => Told {
-                number: 12,
-                place,
-                also: 0,
-            },
-            Reading::Over => Told {
-                number: 13,
-                place: 0,
-                also: 0,
-            },
-            Reading::Accepted(_, _) => Told {
-                number: 0,
-                place: 0,
-                also: 0,
-            },
-        }
+pub type Reading = Result<Sizes, Unread>;
+
+// A refusal's number and place; 0 where the text was accepted.
+pub fn told(reading: Reading) -> Told
+    ensures { AnswersReadingTold reading result }
+{
+    let (number, place) = match reading {
+        Err(Unread::Unfit(place)) => (12, place),
+        Err(Unread::Over) => (13, 0),
+        Ok(_) => (0, 0),
+    };
+    Told {
+        number,
+        place,
+        also: 0,
     }
 }
 
@@ -61,18 +53,14 @@ pub fn read(text: &[u8], commands: &mut [u32], lengths: &mut [u32]) -> Reading
     ensures { Read text.now commands.old lengths.old commands.new lengths.new result }
 {
     if Text::BYTES < text.len() {
-        return Reading::Over;
+        return Err(Unread::Over);
     }
-    match scan(text) {
-        Scanned::Refused(place) => Reading::Unfit(place),
-        Scanned::Passed(m, t) => {
-            if too_many(m, t, commands.len(), lengths.len()) {
-                return Reading::Over;
-            }
-            write(text, commands, lengths);
-            Reading::Accepted(m, t)
-        }
+    let sizes = scan(text).map_err(Unread::Unfit)?;
+    if too_many(sizes.commands, sizes.threads, commands.len(), lengths.len()) {
+        return Err(Unread::Over);
     }
+    write(text, commands, lengths);
+    Ok(sizes)
 }
 
 // The rest of a text that was read: from the offending token on, else its empty end.
@@ -80,7 +68,7 @@ pub fn rest(text: &[u8], reading: Reading) -> &[u8]
     ensures { AnswersRestOf text.entry reading result }
 {
     match reading {
-        Reading::Unfit(place) => rest_from(text, place),
+        Err(Unread::Unfit(place)) => rest_from(text, place),
         _ => rest_from(text, text.len()),
     }
 }

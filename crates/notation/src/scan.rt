@@ -7,43 +7,41 @@ ghost use Rattle.notation.specs.Needs.{Rooms};
 use grammar::{Met, State, TokenMove, may_end, take_token};
 use reader::token_from;
 
-// Refused at a place, or of the notation, with so many commands and threads.
-#[derive(Clone, Copy)]
-pub(crate) enum Scanned {
-    Refused(usize),
-    Passed(usize, usize),
+// How many commands and threads a text has.
+#[derive(Clone, Copy, PartialEq, Eq)]
+pub struct Sizes {
+    pub commands: usize,
+    pub threads: usize,
 }
 
-// The pass that judges a text. It is lent no table.
-pub(crate) fn scan(text: &[u8]) -> Scanned
+// The pass that judges a text; a refusal is its place. It is lent no table.
+pub(crate) fn scan(text: &[u8]) -> Result<Sizes, usize>
     ensures { result ≡ scanned_of text.now }
 {
     let mut at = 0;
     let mut state = State::Word;
-    let mut commands = 0;
-    let mut threads = 0;
+    let mut sizes = Sizes {
+        commands: 0,
+        threads: 0,
+    };
     loop {
         match token_from(text, at) {
             Met::End(end) => {
                 if may_end(state) {
-                    return Scanned::Passed(commands, threads);
+                    return Ok(sizes);
                 }
-                return Scanned::Refused(end);
+                return Err(end);
             }
             Met::Token(token, from, next) => {
                 match take_token(state, token) {
-                    TokenMove::Refuse => {
-                        return Scanned::Refused(from);
-                    }
-                    TokenMove::On(expected) => {
-                        state = expected;
-                    }
+                    TokenMove::Refuse => return Err(from),
+                    TokenMove::On(expected) => state = expected,
                     TokenMove::Row(_, _, _) => {
-                        commands += 1;
+                        sizes.commands += 1;
                         state = State::Close;
                     }
                     TokenMove::Thread => {
-                        threads += 1;
+                        sizes.threads += 1;
                         state = State::Parting;
                     }
                 }
@@ -57,9 +55,7 @@ fn put_row(commands: &mut [u32], at: usize, kind: u32, name: u32, count: u32)
     requires { at + 3 ≤ length commands.old }
     ensures { commands.new ≡ set (set (set commands.old at kind) (at + 1) name) (at + 2) count }
 {
-    commands[at] = kind;
-    commands[at + 1] = name;
-    commands[at + 2] = count;
+    commands[at..at + 3].copy_from_slice(&[kind, name, count]);
 }
 
 // The pass that writes the tables of a text that was judged, into rooms that hold them.
@@ -78,12 +74,8 @@ pub(crate) fn write(text: &[u8], commands: &mut [u32], lengths: &mut [u32])
             return;
         };
         match take_token(state, token) {
-            TokenMove::Refuse => {
-                return;
-            }
-            TokenMove::On(expected) => {
-                state = expected;
-            }
+            TokenMove::Refuse => return,
+            TokenMove::On(expected) => state = expected,
             TokenMove::Row(kind, name, count) => {
                 put_row(commands, numbers, kind, name, count);
                 numbers += 3;

@@ -16,11 +16,7 @@ pub struct Reader<'a> {
 fn tail(text: &[u8], at: usize) -> &[u8]
     ensures { AnswersRest text.entry at result }
 {
-    let end = text.len();
-    if at < end {
-        return &text[at..];
-    }
-    &text[end..]
+    &text[at.min(text.len())..]
 }
 
 impl<'a> Reader<'a> {
@@ -35,10 +31,7 @@ impl<'a> Reader<'a> {
     pub fn moved(self, at: usize) -> Reader<'a>
         ensures { StandsAt self.entry.text at result }
     {
-        Reader {
-            text: self.text,
-            at,
-        }
+        Reader { at, ..self }
     }
 
     // the token there

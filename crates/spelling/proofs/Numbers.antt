@@ -2,20 +2,20 @@
 use mathlib.Core.Path.{◌≡◌, refl, sym}
 use mathlib.Core.Bool.{Bool, true, false, cond, not, ◌&&◌, ◌||◌, true≢false}
 use mathlib.Core.List.{List, [], ◌∷◌}
+use Rattle.std.specs.Prelude.{Option, Some, None}
 use Prim.Native.Nat.{ℕ, ◌+◌, ◌-◌, ◌*◌, ◌≤◌, ◌<◌}
 use native.Mathlib.Omega.{arith}
 use lib.Dec.{eqb, leb, ltb}
 use lib.ListN.{length, get_or, drop, drop_of_length-le}
 use borrow.Author.Tests.{eq-eqb, eqb-true, lt-ltb, ltb-true, le-leb, leb-true}
-use Rattle.spelling.specs.declared.number.Numeral.{Numeral}
-use Rattle.spelling.specs.declared.number.Numeral.TheVariants.{Number, NotNumber}
+use Rattle.spelling.specs.declared.bytes.Class.TheVariants.{Blank, Letter, Digit, Other}
 use Rattle.spelling.specs.Bytes.{class_of, is, digit, run}
 use Rattle.spelling.specs.Numbers.{most_number, decimal, Means, numeral_of}
 use Rattle.spelling.specs.Claims.{NumberExactly}
 use Rattle.spelling.proofs.Scans.{drop_next}
 
 -- the four tests of a number
-passed : (v n : ℕ) (a b c d : Bool) → cond (a && (b && (c && d))) (Number v) NotNumber ≡ Number n → (a ≡ true) × (b ≡ true) × (c ≡ true) × (d ≡ true) × (v ≡ n)
+passed : (v n : ℕ) (a b c d : Bool) → cond (a && (b && (c && d))) (Some v) None ≡ Some n → (a ≡ true) × (b ≡ true) × (c ≡ true) × (d ≡ true) × (v ≡ n)
 passed v n true true true true e = (refl, refl, refl, refl, cc)
 passed v n true true true false e = absurd (true≢false cc)
 passed v n true true false d e = absurd (true≢false cc)
@@ -37,12 +37,12 @@ lone n b e q = by_test (eqb n 1) refl (rw q at e)
     by_test true h g = eqb-true n 1 h
     by_test false h g = absurd (true≢false (sym g))
 
-pub means_number : (w : List ℕ) (n : ℕ) → Means w n → numeral_of w ≡ Number n
+pub means_number : (w : List ℕ) (n : ℕ) → Means w n → numeral_of w ≡ Some n
 unfolding numeral_of
 means_number w n h =
     rw (eq-eqb _ _ h.digits, lt-ltb _ _ h.some, alone (get_or w 0 0) (length w) h.leading, h.value, le-leb n most_number h.small)
 
-pub number_means : (w : List ℕ) (n : ℕ) → numeral_of w ≡ Number n → Means w n
+pub number_means : (w : List ℕ) (n : ℕ) → numeral_of w ≡ Some n → Means w n
 unfolding numeral_of
 number_means w n e =
     let h = passed (decimal 0 w) n (eqb (run (is digit) w) (length w)) (ltb 0 (length w)) (not (eqb (get_or w 0 0) 48 && not (eqb (length w) 1))) (leb (decimal 0 w) most_number) e in
@@ -57,24 +57,24 @@ number_means w n e =
 pub number_exactly : NumberExactly
 number_exactly w n = (number_means w n, means_number w n)
 
-pub means_nothing : (w : List ℕ) → ((n : ℕ) → Means w n → ⊥) → numeral_of w ≡ NotNumber
+pub means_nothing : (w : List ℕ) → ((n : ℕ) → Means w n → ⊥) → numeral_of w ≡ None
 means_nothing w h = by_numeral (numeral_of w) refl
   where
-    by_numeral : (x : Numeral) → numeral_of w ≡ x → x ≡ NotNumber
-    by_numeral (Number n) e = absurd (h n (number_means w n e))
-    by_numeral NotNumber e = refl
+    by_numeral : (x : Option ℕ) → numeral_of w ≡ x → x ≡ None
+    by_numeral (Some n) e = absurd (h n (number_means w n e))
+    by_numeral None e = refl
 
 -- a digit is a byte of 48 to 57
 pub digit_range : (b : ℕ) → class_of b ≡ digit → (48 ≤ b) × (b ≤ 57)
 unfolding class_of
 digit_range b e = by_test (eqb b 32 || eqb b 10) (leb 97 b && leb b 122) (leb 48 b) (leb b 57) refl refl e
   where
-    by_test : (x y u v : Bool) → leb 48 b ≡ u → leb b 57 ≡ v → ◌≡◌ {A = ℕ} (cond x 0 (cond y 1 (cond (u && v) 2 3))) 2 → (48 ≤ b) × (b ≤ 57)
-    by_test true y u v p q h = absurd (omega arith)
-    by_test false true u v p q h = absurd (omega arith)
+    by_test : (x y u v : Bool) → leb 48 b ≡ u → leb b 57 ≡ v → cond x Blank (cond y Letter (cond (u && v) Digit Other)) ≡ Digit → (48 ≤ b) × (b ≤ 57)
+    by_test true y u v p q h = absurd cc
+    by_test false true u v p q h = absurd cc
     by_test false false true true p q h = (leb-true 48 b p, leb-true b 57 q)
-    by_test false false true false p q h = absurd (omega arith)
-    by_test false false false v p q h = absurd (omega arith)
+    by_test false false true false p q h = absurd cc
+    by_test false false false v p q h = absurd cc
 
 pub decimal_grows : (w : List ℕ) (v : ℕ) → v ≤ decimal v w
 unfolding decimal

@@ -1,26 +1,39 @@
 -- Classes of bytes, and runs of bytes (R43).
 use Rattle.std.specs.Prelude.{Bool, cond, ◌&&◌, ◌||◌, List, [], ◌∷◌, ℕ, suc, eqb, leb, drop}
+use Rattle.spelling.specs.declared.bytes.Class.{Class}
+use Rattle.spelling.specs.declared.bytes.Class.TheVariants.{Blank, Letter, Digit, Other}
 
-abbrev pub blank : ℕ
-blank = 0
+abbrev pub blank : Class
+blank = Blank
 
-abbrev pub letter : ℕ
-letter = 1
+abbrev pub letter : Class
+letter = Letter
 
-abbrev pub digit : ℕ
-digit = 2
+abbrev pub digit : Class
+digit = Digit
 
-abbrev pub other : ℕ
-other = 3
+abbrev pub other : Class
+other = Other
 
 -- blanks are spaces, 32, and newlines, 10; letters are lower-case ones, 97 to 122; digits are 48 to 57 (R43)
-unfoldable pub class_of : ℕ → ℕ
+unfoldable pub class_of : ℕ → Class
 class_of b =
     cond (eqb b 32 || eqb b 10) blank (cond (leb 97 b && leb b 122) letter (cond (leb 48 b && leb b 57) digit other))
 
+-- the classes by number, in that order
+abbrev pub code : Class → ℕ
+code Blank = 0
+code Letter = 1
+code Digit = 2
+code Other = 3
+
+-- is a byte of the class of a number, of which there may be none?
+abbrev pub numbered : ℕ → ℕ → Bool
+numbered n b = eqb (code (class_of b)) n
+
 -- is a byte of a class?
-abbrev pub is : ℕ → ℕ → Bool
-is k b = eqb (class_of b) k
+abbrev pub is : Class → ℕ → Bool
+is k b = numbered (code k) b
 
 -- how many bytes that pass a test the bytes begin with (R43)
 unfoldable pub run : (ℕ → Bool) → List ℕ → ℕ

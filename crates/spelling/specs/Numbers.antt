@@ -1,7 +1,5 @@
 -- Numbers have no leading zero (but 0 itself) and are at most 65,535 (R45).
-use Rattle.std.specs.Prelude.{◌≡◌, Bool, cond, not, ◌&&◌, List, [], ◌∷◌, ℕ, ◌+◌, ◌-◌, ◌*◌, ◌≤◌, ◌<◌, eqb, leb, ltb, length, get_or}
-use Rattle.spelling.specs.declared.number.Numeral.{Numeral}
-use Rattle.spelling.specs.declared.number.Numeral.TheVariants.{Number, NotNumber}
+use Rattle.std.specs.Prelude.{◌≡◌, Bool, cond, not, ◌&&◌, Option, Some, None, List, [], ◌∷◌, ℕ, ◌+◌, ◌-◌, ◌*◌, ◌≤◌, ◌<◌, eqb, leb, ltb, length, get_or}
 use Rattle.spelling.specs.Bytes.{is, digit, run}
 
 -- the largest number that a text may hold (R45)
@@ -26,6 +24,6 @@ abbrev pub is_number : List ℕ → Bool
 is_number w =
     eqb (run (is digit) w) (length w) && (ltb 0 (length w) && (not (eqb (get_or w 0 0) 48 && not (eqb (length w) 1)) && leb (decimal 0 w) most_number))
 
--- what the bytes are (R45)
-unfoldable pub numeral_of : List ℕ → Numeral
-numeral_of w = cond (is_number w) (Number (decimal 0 w)) NotNumber
+-- the number that the bytes are, if they are one (R45)
+unfoldable pub numeral_of : List ℕ → Option ℕ
+numeral_of w = cond (is_number w) (Some (decimal 0 w)) None

@@ -1,22 +1,22 @@
 -- What each public function promises.
-use Rattle.std.specs.Prelude.{◌≡◌, Bool, List, ℕ}
-use Rattle.spelling.specs.declared.number.Numeral.{Numeral}
-use Rattle.spelling.specs.Bytes.{class_of, is, run}
+use Rattle.std.specs.Prelude.{◌≡◌, Bool, Option, List, ℕ}
+use Rattle.spelling.specs.declared.bytes.Class.{Class}
+use Rattle.spelling.specs.Bytes.{class_of, numbered, run}
 use Rattle.spelling.specs.Words.{same_bytes}
 use Rattle.spelling.specs.Numbers.{numeral_of}
 
 -- `class_of`
-abbrev pub AnswersClassOf : (byte r : ℕ) → Type 0
+abbrev pub AnswersClassOf : (byte : ℕ) (r : Class) → Type 0
 AnswersClassOf byte r = r ≡ class_of byte
 
--- `run_of`
+-- `run_of`, of the class of a number
 abbrev pub AnswersRunOf : (bytes : List ℕ) (class r : ℕ) → Type 0
-AnswersRunOf bytes class r = r ≡ run (is class) bytes
+AnswersRunOf bytes class r = r ≡ run (numbered class) bytes
 
 -- `same`
 abbrev pub AnswersSame : (bytes word : List ℕ) (r : Bool) → Type 0
 AnswersSame bytes word r = r ≡ same_bytes bytes word
 
 -- `read_number`
-abbrev pub AnswersReadNumber : (bytes : List ℕ) (r : Numeral) → Type 0
+abbrev pub AnswersReadNumber : (bytes : List ℕ) (r : Option ℕ) → Type 0
 AnswersReadNumber bytes r = r ≡ numeral_of bytes

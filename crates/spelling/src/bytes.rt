@@ -1,45 +1,36 @@
 // Classes of bytes, and runs of bytes of one class.
 ghost use Rattle.spelling.specs.Promise.{AnswersClassOf, AnswersRunOf};
 
-#[derive(Clone, Copy)]
-pub struct Byte;
-
-impl Byte {
+#[derive(Clone, Copy, PartialEq, Eq)]
+pub enum Class {
     // a space or a newline
-    pub const BLANK: u32 = 0;
+    Blank,
     // a lower-case letter
-    pub const LETTER: u32 = 1;
-
-    pub const DIGIT: u32 = 2;
-
-    pub const OTHER: u32 = 3;
+    Letter,
+    Digit,
+    Other,
 }
 
-pub fn class_of(byte: u8) -> u32
+#[tactic(auto, unfolding(crate::specs::Bytes::class_of))]
+pub fn class_of(byte: u8) -> Class
     ensures { AnswersClassOf byte result }
 {
-    if (byte == 32) | (byte == 10) {
-        return Byte::BLANK;
+    match byte {
+        b' ' | b'\n' => Class::Blank,
+        b'a'..=b'z' => Class::Letter,
+        b'0'..=b'9' => Class::Digit,
+        _ => Class::Other,
     }
-    if (97 <= byte) & (byte <= 122) {
-        return Byte::LETTER;
-    }
-    if (48 <= byte) & (byte <= 57) {
-        return Byte::DIGIT;
-    }
-    Byte::OTHER
 }
 
-// How many bytes of a class the bytes begin with.
+// How many bytes of a class the bytes begin with. The class stays a number, for any may be asked; a closure in its place would need a `requires`, and a public function has none.
 pub fn run_of(bytes: &[u8], class: u32) -> usize
     ensures { AnswersRunOf bytes.now class result }
 {
-    let mut i = 0;
-    while i < bytes.len() {
-        if class_of(bytes[i]) != class {
+    for (i, byte) in bytes.iter().enumerate() {
+        if class_of(*byte) as u32 != class {
             return i;
         }
-        i += 1;
     }
-    i
+    bytes.len()
 }

@@ -6,6 +6,6 @@ mod bytes; // classes of bytes, and runs of one class
 mod number; // numbers in digits
 mod word; // words
 
-pub use bytes::{Byte, class_of, run_of};
-pub use number::{Numeral, read_number};
+pub use bytes::{Class, class_of, run_of};
+pub use number::{MOST_NUMBER, read_number};
 pub use word::same;

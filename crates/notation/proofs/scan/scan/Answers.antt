@@ -17,13 +17,13 @@ pub returns-in-Refuse : goal.returns-in-Refuse
 returns-in-Refuse c =
     judging_refused c.loop-end.invariant (sym c.token_from.ensures ∙ c.in-Token.is) (sym c.take_token.ensures ∙ c.in-Refuse.is)
 
-pub overflow_add-commands : goal.overflow_add-commands
-overflow_add-commands c =
+pub overflow_add-sizes : goal.overflow_add-sizes
+overflow_add-sizes c =
     let J = c.loop-end.invariant in
     omega (arith, J.few.0, judging_further J (sym c.token_from.ensures ∙ c.in-Token.is))
 
-pub overflow_add-threads : goal.overflow_add-threads
-overflow_add-threads c =
+pub overflow_add-sizes-in-Thread : goal.overflow_add-sizes-in-Thread
+overflow_add-sizes-in-Thread c =
     let J = c.loop-end.invariant in
     omega (arith, J.few.1, judging_further J (sym c.token_from.ensures ∙ c.in-Token.is))
 

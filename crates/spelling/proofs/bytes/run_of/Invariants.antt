@@ -1,12 +1,9 @@
 -- `run_of` meets its contract: what the loop has passed and the run from there on are the whole run. Assumes nothing.
 use mathlib.Core.Path.{◌≡◌}
-use Prim.Native.Nat.{◌+◌, ◌-◌}
-use lib.ListN.{length, drop}
-use Rattle.spelling.specs.Bytes.{is, run}
+use Prim.Native.Nat.{◌+◌}
+use lib.ListN.{drop}
+use Rattle.spelling.specs.Bytes.{numbered, run}
 use Rattle.spelling.proofs.bytes.run_of.Given as goal
 
 abbrev pub invariant-loop-i : goal.invariant-loop-i
-invariant-loop-i l = l.i + run (is l.class) (drop l.i l.bytes) ≡ run (is l.class) l.bytes
-
-abbrev pub decreases-loop-i : goal.decreases-loop-i
-decreases-loop-i l = length l.bytes - l.i
+invariant-loop-i l = l.i + run (numbered l.class) (drop l.i l.bytes) ≡ run (numbered l.class) l.bytes
