@@ -60,6 +60,9 @@ module _ {p q r : Printer} {a b : List ℕ} where
   pub puts_on : Puts p q a → Puts q r b → Puts p r (a ++ b)
   puts_on f g = record { puts = puts_bytes_on f.puts g.puts; same = g.same ∙ f.same }
 
+pub puts_as : {p q : Printer} {v w : List ℕ} → v ≡ w → Puts p q v → Puts p q w
+puts_as e f = rw e at f
+
 pub puts_over : {before after w : List ℕ} {n : ℕ} → PutsBytes before after 0 w n → length w ≤ length before → after ≡ over w before
 puts_over {before} {w = w} p h = p.room ∙ sets_over w before h
 

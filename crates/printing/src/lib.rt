@@ -1,7 +1,7 @@
 // Bytes and numbers into a lent room, from a place on.
 #![tactic(auto)]
 
-ghost use Rattle.std.specs.Prelude.{[], ◌∷◌};
+ghost use Rattle.std.specs.Prelude.{[], ◌∷◌, ◌++◌};
 ghost use Rattle.printing.specs.Figures.{figures};
 ghost use Rattle.printing.specs.Putting.{Puts};
 
@@ -38,5 +38,14 @@ impl Printer<'_> {
             self.put_number(n / 10);
         }
         self.put_byte(48 + (n % 10) as u8);
+    }
+
+    // A number with what stands before and after it.
+    pub fn put_within(&mut self, before: &[u8], n: usize, after: &[u8])
+        ensures { Puts self.old self.new (before.now ++ figures n ++ after.now) }
+    {
+        self.put(before);
+        self.put_number(n);
+        self.put(after);
     }
 }
