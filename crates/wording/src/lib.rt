@@ -65,6 +65,6 @@ pub fn put_steps(out: &mut Printer<'_>, schedule: &[u32])
 {
     for (i, t) in schedule.iter().enumerate() {
         out.put_number(*t as usize);
-        out.put_byte(parted_by(schedule.len() - i - 1));
+        out.put_byte(parted_by(schedule.len() - (i + 1)));
     }
 }
