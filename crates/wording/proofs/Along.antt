@@ -4,7 +4,7 @@ use mathlib.Core.List.{List, [], ◌∷◌, ◌++◌, append-nil, append_assoc}
 use Prim.Native.Nat.{ℕ, zero, suc, ◌+◌, ◌-◌, ◌≤◌, ◌<◌}
 use native.Mathlib.Numerals.{add-one}
 use native.Mathlib.Omega.{arith}
-use lib.ListN.{length, get_or, drop, length-drop}
+use lib.ListN.{length, get_or, drop, length-drop, drop_of_length-le}
 use lib.Seq.{drop-cons}
 use Rattle.printing.specs.Figures.{figures}
 use Rattle.printing.specs.declared.Printer.{Printer}
@@ -46,12 +46,6 @@ generation_line c g h = grouped (command_word ++ figures c ++ gets_word) (figure
 
 -- ---- a schedule
 
-pub drop_past : {A : Type 0} (i : ℕ) (l : List A) → length l ≤ i → drop i l ≡ []
-drop_past zero [] h = refl
-drop_past zero (x ∷ l) h = absurd (omega arith)
-drop_past (suc i) [] h = refl
-drop_past (suc i) (x ∷ l) h = drop_past i l (omega arith)
-
 module _ (σ : List ℕ) (i : ℕ) where
   pub steps_next : i < length σ → steps_line (drop i σ) ≡ (figures (get_or σ i 0) ++ parting_byte (length σ - (i + 1)) ∷ []) ++ steps_line (drop (i + 1) σ)
   unfolding steps_line
@@ -63,4 +57,4 @@ module _ (σ : List ℕ) (i : ℕ) where
 
   pub steps_end : length σ ≤ i → steps_line (drop i σ) ≡ []
   unfolding steps_line
-  steps_end l = ap steps_line (drop_past i σ l)
+  steps_end l = ap steps_line (drop_of_length-le σ l)
