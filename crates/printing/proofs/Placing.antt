@@ -63,8 +63,9 @@ module _ {p q r : Printer} {a b : List ℕ} where
 pub puts_as : {p q : Printer} {v w : List ℕ} → v ≡ w → Puts p q v → Puts p q w
 puts_as e f = rw e at f
 
-pub puts_over : {before after w : List ℕ} {n : ℕ} → PutsBytes before after 0 w n → length w ≤ length before → after ≡ over w before
-puts_over {before} {w = w} p h = p.room ∙ sets_over w before h
+-- from the start of a room with place for them
+pub puts_over : {p q : Printer} {w : List ℕ} → p.at ≡ 0 → Puts p q w → length w ≤ length p.room.now → q.room.now ≡ over w p.room.now
+puts_over {p} {w = w} z f h = f.puts.room ∙ ap (λ (k : ℕ). sets p.room.now k w) z ∙ sets_over w p.room.now h
 
 -- ---- a list put byte by byte
 
