@@ -41,7 +41,8 @@ use Rattle.exhibits.proofs.Doors.{exhibited_none, exhibited_all, exhibits_none}
 use Rattle.exhibits.proofs.Alike.{Named, exhibits_alike}
 use Rattle.exhibits.proofs.Long.{exhibits_short}
 use Rattle.exhibits.proofs.True.{shown_true}
-use Rattle.printing.specs.Putting.{PutsBytes}
+use Rattle.printing.specs.declared.Printer.{Printer}
+use Rattle.printing.specs.Putting.{Puts}
 use Rattle.printing.proofs.Placing.{puts_on, puts_over}
 use Rattle.report.specs.declared.Conclusion.{Conclusion}
 use Rattle.desk.specs.declared.conclusion.Concluded.{Concluded}
@@ -228,31 +229,30 @@ module _ {text relation generations : List ℕ} {r : Concluded} {commands' lengt
       (λ (f : has_pairs k ≡ false). none_are f (take r.numbers commands') (take r.threads lengths'))
       (split (has_pairs k))
 
-  pub evidenced_text : {room room₁ room₂ : List ℕ} {at next : ℕ} → least_evidence ≤ length room → PutsBytes room room₁ 0 (report r.conclusion) at
-      → PutsBytes room₁ room₂ at (exhibited (take r.numbers commands') (take r.threads lengths') generations' relation' r.conclusion.told.number r.conclusion.sheet) next
-      → TextEvidenced text room room₂ r.conclusion.told.number
-  evidenced_text {room} h p q =
+  pub evidenced_text : {p q q' : Printer} {room : List ℕ} → least_evidence ≤ length p.room.now → p.at ≡ 0 → Puts p q (report r.conclusion)
+      → Puts q q' (exhibited (take r.numbers commands') (take r.threads lengths') generations' relation' r.conclusion.told.number r.conclusion.sheet)
+      → room ≡ q'.room.now → TextEvidenced text p.room.now room r.conclusion.told.number
+  evidenced_text h z f g e =
       let told_is : r.conclusion.told.number ≡ (of_text text).told.number = ap (λ (k : Conclusion). k.told.number) C.concludes in
       record {
         refuses = λ g. absurd (omega arith);
         answers = λ _. told_is;
-        prints = λ _. puts_over (puts_on (rw C.concludes at p) (rw exhibits_are at q)) (omega (arith, all_fits text));
+        prints = λ _. e ∙ puts_over z (puts_on (rw C.concludes at f) (rw exhibits_are at g)) (omega (arith, all_fits text));
         demand₃ = λ _. rw told_is (text_judged text);
         reuse = λ e. ten_so text (sym told_is ∙ e);
         races = λ e. eleven_so text (sym told_is ∙ e);
       }
 
-module _ (text room : List ℕ) where
-  pub evidence_refused : length room < least_evidence → TextEvidenced text room room 14
-  evidence_refused h =
-      record {
-        refuses = λ _. (refl, refl);
-        answers = λ g. absurd (omega arith);
-        prints = λ g. absurd (omega arith);
-        demand₃ = λ g. absurd (omega arith);
-        reuse = λ e. absurd (omega (arith, e));
-        races = λ e. absurd (omega (arith, e));
-      }
+pub evidence_refused : (text : List ℕ) {room : List ℕ} → length room < least_evidence → TextEvidenced text room room 14
+evidence_refused text h =
+    record {
+      refuses = λ _. (refl, refl);
+      answers = λ g. absurd (omega arith);
+      prints = λ g. absurd (omega arith);
+      demand₃ = λ g. absurd (omega arith);
+      reuse = λ e. absurd (omega (arith, e));
+      races = λ e. absurd (omega (arith, e));
+    }
 
 -- no other answer, and no other bytes
 pub text_evidence_one : {text room a b : List ℕ} {m n : ℕ} → TextEvidenced text room a m → TextEvidenced text room b n → (m ≡ n) × (a ≡ b)

@@ -17,7 +17,8 @@ use Rattle.notation.specs.declared.reading.Reading.TheVariants.{Unfit, Over, Acc
 use Rattle.notation.specs.Reading.{most_bytes, answered, row_numbers, thread_lengths}
 use Rattle.notation.proofs.Readings.{Stands, reads_means}
 use Rattle.relation.specs.Table.{words}
-use Rattle.printing.specs.Putting.{PutsBytes}
+use Rattle.printing.specs.declared.Printer.{Printer}
+use Rattle.printing.specs.Putting.{Puts}
 use Rattle.printing.proofs.Placing.{puts_over}
 use Rattle.replay.specs.Writer.{schedule}
 use Rattle.sheet.specs.Sheet.{most_kept, pair, firsts, sheet_of}
@@ -105,26 +106,25 @@ pub text_fits : (text : List ℕ) → length (report (of_text text)) ≤ least_r
 text_fits text = omega (arith, text_short text, longest_fits)
 
 -- what `review_text` has found at its two returns
-module _ (text room : List ℕ) where
-  pub refused_room : length room < least_room → TextReviewed text room room 14
-  refused_room l =
-      record {
-        refuses = λ _. (refl, refl);
-        answers = λ h. absurd (omega arith);
-        prints = λ h. absurd (omega arith);
-        demand₃ = λ h. absurd (omega arith);
-      }
+pub refused_room : (text : List ℕ) {room : List ℕ} → length room < least_room → TextReviewed text room room 14
+refused_room text l =
+    record {
+      refuses = λ _. (refl, refl);
+      answers = λ h. absurd (omega arith);
+      prints = λ h. absurd (omega arith);
+      demand₃ = λ h. absurd (omega arith);
+    }
 
-  pub reviewed_text : least_room ≤ length room → {k : Conclusion} → k ≡ of_text text → {room' : List ℕ} {r : ℕ} → PutsBytes room room' 0 (report k) r
-      → TextReviewed text room room' k.told.number
-  reviewed_text l {k} e p =
-      let n : k.told.number ≡ (of_text text).told.number = cc in
-      record {
-        refuses = λ h. absurd (omega arith);
-        answers = λ _. n;
-        prints = λ _. puts_over (rw e at p) (omega (arith, text_fits text));
-        demand₃ = λ _. rw n (text_judged text);
-      }
+pub reviewed_text : (text : List ℕ) {p q : Printer} {k : Conclusion} {room : List ℕ} → least_room ≤ length p.room.now → k ≡ of_text text → p.at ≡ 0
+    → Puts p q (report k) → room ≡ q.room.now → TextReviewed text p.room.now room k.told.number
+reviewed_text text {k = k} l e z f r =
+    let n : k.told.number ≡ (of_text text).told.number = cc in
+    record {
+      refuses = λ h. absurd (omega arith);
+      answers = λ _. n;
+      prints = λ _. r ∙ puts_over z (rw e at f) (omega (arith, text_fits text));
+      demand₃ = λ _. rw n (text_judged text);
+    }
 
 -- no other answer, and no other bytes
 pub text_one : {text room a b : List ℕ} {m n : ℕ} → TextReviewed text room a m → TextReviewed text room b n → (m ≡ n) × (a ≡ b)

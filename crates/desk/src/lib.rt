@@ -6,6 +6,7 @@ ghost use Rattle.desk.specs.Evidence.{TextEvidenced};
 
 use crate::conclusion::{Full, conclude};
 use exhibits::put_exhibits;
+use printing::Printer;
 use report::print;
 use tables::Table;
 
@@ -41,7 +42,11 @@ pub fn review_text(text: &[u8], report: &mut [u8]) -> u32
         &mut generations,
     );
     let conclusion = concluded.conclusion;
-    print(report, conclusion);
+    let mut out = Printer {
+        room: report,
+        at: 0,
+    };
+    print(&mut out, conclusion);
     conclusion.told.number
 }
 
@@ -64,16 +69,19 @@ pub fn review_text_evidence(text: &[u8], report: &mut [u8]) -> u32
         &mut generations,
     );
     let conclusion = concluded.conclusion;
-    let at = print(report, conclusion);
+    let mut out = Printer {
+        room: report,
+        at: 0,
+    };
+    print(&mut out, conclusion);
     put_exhibits(
+        &mut out,
         &commands[..concluded.numbers],
         &lengths[..concluded.threads],
         &generations,
         &relation,
         conclusion.told.number,
         conclusion.sheet,
-        report,
-        at,
     );
     conclusion.told.number
 }

@@ -8,13 +8,14 @@ ghost use Rattle.rooms.specs.Rooms.{number_at};
 ghost use Rattle.rooms.specs.Needs.{Roomy};
 ghost use Rattle.replay.specs.Writer.{apart_schedule};
 ghost use Rattle.steps.specs.Writing.{FilledBy};
-ghost use Rattle.printing.specs.Putting.{PutsBytes};
+ghost use Rattle.printing.specs.Putting.{Puts};
 ghost use Rattle.exhibits.specs.Exhibits.{reuse_exhibit, order_exhibit, race_exhibits, exhibited};
 
 use crate::shown::shown_by;
+use printing::Printer;
 use replay::write_apart;
 use rooms::admits;
-use sheet::{Sheet, kept};
+use sheet::{Pair, Sheet, kept};
 use tables::Table;
 use wording::{put_first, put_shown, put_steps};
 
@@ -38,99 +39,86 @@ fn fill_apart(
 
 // Of a race, x first.
 fn put_way(
+    out: &mut Printer<'_>,
     commands: &[u32],
     lengths: &[u32],
     relation: &[u32],
     x: usize,
     y: usize,
-    room: &mut [u8],
-    at: usize,
-) -> usize
+)
     requires { Keeps commands.now lengths.now }
-    ensures { PutsBytes room.old room.new at
-        (order_exhibit commands.now lengths.now (related relation.now (rows commands.now)) x y) result }
+    ensures { Puts out.old out.new
+        (order_exhibit commands.now lengths.now (related relation.now (rows commands.now)) x y) }
 {
     let mut schedule = [0u32; Table::ROWS];
     let steps = fill_apart(commands, lengths, relation, y, x, &mut schedule);
-    let next = put_first(room, at, x, y);
-    put_steps(room, next, &schedule[..steps])
+    put_first(out, x, y);
+    put_steps(out, &schedule[..steps]);
 }
 
 // Of a reuse fault (c, d), judged against the generations offered.
 fn put_reuse(
+    out: &mut Printer<'_>,
     commands: &[u32],
     lengths: &[u32],
     generations: &[u32],
     relation: &[u32],
     c: usize,
     d: usize,
-    room: &mut [u8],
-    at: usize,
-) -> usize
+)
     requires { Roomy commands.now lengths.now generations.now relation.now }
-    ensures { PutsBytes room.old room.new at
+    ensures { Puts out.old out.new
         (reuse_exhibit commands.now lengths.now (related relation.now (rows commands.now))
-        (number_at generations.now) (pair c d)) result }
+        (number_at generations.now) (pair c d)) }
 {
     let mut schedule = [0u32; Table::ROWS];
     let steps = fill_apart(commands, lengths, relation, c, d, &mut schedule);
     let shown = shown_by(commands, lengths, generations, &schedule[..steps]);
-    let next = put_shown(room, at, shown);
-    put_steps(room, next, &schedule[..steps])
+    put_shown(out, shown);
+    put_steps(out, &schedule[..steps]);
 }
 
 // Of each pair that a sheet keeps, both ways.
 fn put_races(
+    out: &mut Printer<'_>,
     commands: &[u32],
     lengths: &[u32],
     relation: &[u32],
     sheet: Sheet,
-    room: &mut [u8],
-    at: usize,
-) -> usize
+)
     requires { Keeps commands.now lengths.now }
-    ensures { PutsBytes room.old room.new at
-        (race_exhibits commands.now lengths.now (related relation.now (rows commands.now)) (kept_pairs sheet)) result }
+    ensures { Puts out.old out.new
+        (race_exhibits commands.now lengths.now (related relation.now (rows commands.now)) (kept_pairs sheet)) }
 {
-    let n = kept(sheet.total);
-    let mut next = at;
-    let mut k = 0;
-    while k < n {
-        let pair = sheet.pairs[k];
-        let x = pair.first;
-        let y = pair.second;
-        let half = put_way(commands, lengths, relation, x, y, room, next);
-        next = put_way(commands, lengths, relation, y, x, room, half);
-        k += 1;
+    for pair in &sheet.pairs[..kept(sheet.total)] {
+        let (x, y) = (pair.first, pair.second);
+        put_way(out, commands, lengths, relation, x, y);
+        put_way(out, commands, lengths, relation, y, x);
     }
-    next
 }
 
-// Any tables, any rooms, any verdict's number and sheet: the exhibits from a place on; answers the place after them.
+// Any tables, any rooms, any verdict's number and sheet: the exhibits.
 pub fn put_exhibits(
+    out: &mut Printer<'_>,
     commands: &[u32],
     lengths: &[u32],
     generations: &[u32],
     relation: &[u32],
     number: u32,
     sheet: Sheet,
-    room: &mut [u8],
-    at: usize,
-) -> usize
-    ensures { PutsBytes room.old room.new at
-        (exhibited commands.now lengths.now generations.now relation.now number sheet) result }
+)
+    ensures { Puts out.old out.new
+        (exhibited commands.now lengths.now generations.now relation.now number sheet) }
 {
     if !admits(commands, lengths, relation.len(), generations.len()) {
-        return at;
+        return;
     }
-    if number == 10 {
-        let pair = sheet.pairs[0];
-        let c = pair.first;
-        let d = pair.second;
-        return put_reuse(commands, lengths, generations, relation, c, d, room, at);
+    match number {
+        10 => {
+            let Pair { first, second } = sheet.pairs[0];
+            put_reuse(out, commands, lengths, generations, relation, first, second);
+        }
+        11 => put_races(out, commands, lengths, relation, sheet),
+        _ => {}
     }
-    if number == 11 {
-        return put_races(commands, lengths, relation, sheet, room, at);
-    }
-    at
 }

@@ -1,6 +1,5 @@
 // What a schedule shows, judged again.
 ghost use Rattle.std.specs.Prelude.{◌≡◌, ◌≤◌, length};
-ghost use Rattle.tables.specs.Limits.{most_rows};
 ghost use Rattle.rooms.specs.Rooms.{number_at};
 ghost use Rattle.exhibits.specs.Shown.{other_generation_of, what_is_shown};
 ghost use Rattle.exhibits.specs.Needs.{Ended, Offered};
@@ -31,18 +30,14 @@ fn end_of(commands: &[u32], lengths: &[u32], schedule: &[u32]) -> End
 }
 
 // The lowest command whose generation is not the one offered, with both; or m.
-fn other_generation(found: [u32; Table::ROWS], offered: &[u32], m: usize) -> Shown
-    requires { (m ≤ most_rows) × (m ≤ length offered.now) }
-    ensures { result ≡ other_generation_of (number_at found) (number_at offered.now) m }
+fn other_generation(found: &[u32], offered: &[u32], m: usize) -> Shown
+    requires { (m ≤ length found.now) × (m ≤ length offered.now) }
+    ensures { result ≡ other_generation_of (number_at found.now) (number_at offered.now) m }
 {
-    let mut c = 0;
-    while c < m {
-        let g = found[c];
-        let h = offered[c];
-        if g != h {
-            return Shown::Generation(c, g, h);
+    for c in 0..m {
+        if found[c] != offered[c] {
+            return Shown::Generation(c, found[c], offered[c]);
         }
-        c += 1;
     }
     Shown::Generation(m, 0, 0)
 }
@@ -58,17 +53,10 @@ pub(crate) fn shown_by(
     ensures { result ≡ what_is_shown commands.now lengths.now (number_at generations.now) schedule.now }
 {
     let end = end_of(commands, lengths, schedule);
-    let number = end.told.number;
-    let place = end.told.place;
-    if number == 7 {
-        return Shown::Mismatch(place);
+    match end.told.number {
+        7 => Shown::Mismatch(end.told.place),
+        8 => Shown::Deadlock(end.told.place),
+        9 => Shown::LeftSet(end.told.place),
+        _ => other_generation(&end.generations, generations, commands.len() / 3),
     }
-    if number == 8 {
-        return Shown::Deadlock(place);
-    }
-    if number == 9 {
-        return Shown::LeftSet(place);
-    }
-    let found = end.generations;
-    other_generation(found, generations, commands.len() / 3)
 }

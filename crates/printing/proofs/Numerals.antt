@@ -40,6 +40,10 @@ pub figures_digit : (n : ℕ) → n < 10 → figures n ≡ figure n ∷ []
 unfolding figures
 figures_digit n h = to_digit n n h
 
+-- where there is one figure, it is the last
+pub figures_only : (n : ℕ) → n < 10 → figures n ≡ figure (n % 10) ∷ []
+figures_only n h = figures_digit n h ∙ ap (λ (k : ℕ). figure k ∷ []) (omega arith)
+
 pub figures_step : (n : ℕ) → 10 ≤ n → figures n ≡ figures (n / 10) ++ (figure (n % 10) ∷ [])
 unfolding figures
 figures_step n h =

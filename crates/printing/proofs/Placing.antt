@@ -10,7 +10,8 @@ use native.Mathlib.Omega.{arith}
 use lib.ListN.{length, set, take, get_or, length-append, length-set}
 use lib.Seq.{take-suc, take_all, set_out, sets, sets-eq, length-sets}
 use Rattle.tables.specs.Over.{over}
-use Rattle.printing.specs.Putting.{past, PutsBytes}
+use Rattle.printing.specs.declared.Printer.{Printer}
+use Rattle.printing.specs.Putting.{past, PutsBytes, Puts}
 
 -- ---- a run of stores
 
@@ -45,35 +46,32 @@ sets_over w room h = sets-eq w room 0 (omega arith) ∙ rw (zero_on (length w))
 
 -- ---- puts one after another
 
-pub puts_none : (room : List ℕ) (at : ℕ) → PutsBytes room room at [] at
-puts_none room at = record { room = refl; on = omega arith }
+puts_bytes_on : {before mid after : List ℕ} {at n k : ℕ} {a b : List ℕ} → PutsBytes before mid at a n → PutsBytes mid after n b k → PutsBytes before after at (a ++ b) k
+puts_bytes_on {before} {at = at} {a = a} {b} p q =
+    record {
+      room = q.room ∙ rw (p.room, p.on) (sets_on before at a b);
+      on = omega (arith, p.on, q.on, ap length p.room, length-sets before at a, length-append a b);
+    }
 
-pub puts_one : (room : List ℕ) (at b : ℕ) → at < length room → PutsBytes room (set room at b) at (b ∷ []) (at + 1)
-puts_one room at b h = record { room = refl; on = omega arith }
+pub puts_none : (p : Printer) → Puts p p []
+puts_none p = record { puts = record { room = refl; on = omega arith }; same = refl }
 
-pub puts_out : (room : List ℕ) (at b : ℕ) → length room ≤ at → PutsBytes room room at (b ∷ []) at
-puts_out room at b h = record { room = sym (set_out room at b h); on = omega arith }
+module _ {p q r : Printer} {a b : List ℕ} where
+  pub puts_on : Puts p q a → Puts q r b → Puts p r (a ++ b)
+  puts_on f g = record { puts = puts_bytes_on f.puts g.puts; same = g.same ∙ f.same }
 
-module _ {before after : List ℕ} {at n : ℕ} {w : List ℕ} (p : PutsBytes before after at w n) where
-  pub puts_long : length after ≡ length before
-  puts_long = ap length p.room ∙ length-sets before at w
+pub puts_as : {p q : Printer} {v w : List ℕ} → v ≡ w → Puts p q v → Puts p q w
+puts_as e f = rw e at f
 
-module _ {before mid after : List ℕ} {at n k : ℕ} {a b : List ℕ} where
-  pub puts_on : PutsBytes before mid at a n → PutsBytes mid after n b k → PutsBytes before after at (a ++ b) k
-  puts_on p q =
-      record {
-        room = q.room ∙ rw (p.room, p.on) (sets_on before at a b);
-        on = omega (arith, p.on, q.on, puts_long p, length-append a b);
-      }
-
-pub puts_over : {before after w : List ℕ} {n : ℕ} → PutsBytes before after 0 w n → length w ≤ length before → after ≡ over w before
-puts_over {before} {w = w} p h = p.room ∙ sets_over w before h
+-- from the start of a room with place for them
+pub puts_over : {p q : Printer} {w : List ℕ} → p.at ≡ 0 → Puts p q w → length w ≤ length p.room.now → q.room.now ≡ over w p.room.now
+puts_over {p} {w = w} z f h = f.puts.room ∙ ap (λ (k : ℕ). sets p.room.now k w) z ∙ sets_over w p.room.now h
 
 -- ---- a list put byte by byte
 
-module _ {before mid : List ℕ} {at n : ℕ} (w : List ℕ) (i : ℕ) (p : PutsBytes before mid at (take i w) n) where
-  pub front_next : {after : List ℕ} {k : ℕ} → i < length w → PutsBytes mid after n (get_or w i 0 ∷ []) k → PutsBytes before after at (take (i + 1) w) k
-  front_next h q = rw (add-one i, take-suc w i 0 h) (puts_on p q)
+module _ {p q : Printer} (w : List ℕ) (i : ℕ) (f : Puts p q (take i w)) where
+  pub front_next : {r : Printer} → i < length w → Puts q r (get_or w i 0 ∷ []) → Puts p r (take (i + 1) w)
+  front_next h g = rw (add-one i, take-suc w i 0 h) (puts_on f g)
 
-  pub front_all : length w ≤ i → PutsBytes before mid at w n
-  front_all h = rw (take_all i w h) at p
+  pub front_all : length w ≤ i → Puts p q w
+  front_all h = rw (take_all i w h) at f

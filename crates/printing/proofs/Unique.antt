@@ -2,8 +2,10 @@
 use mathlib.Core.Path.{◌≡◌, sym, ◌∙◌}
 use mathlib.Core.List.{List}
 use Prim.Native.Nat.{ℕ}
-use Rattle.printing.specs.Putting.{PutsBytes}
+use Rattle.printing.specs.declared.Printer.{Printer}
+use Rattle.printing.specs.Putting.{Puts}
 
--- of all three: the room that they leave, and the place that they answer
-pub puts_unique : {before a b : List ℕ} {at m n : ℕ} {bytes : List ℕ} → PutsBytes before a at bytes m → PutsBytes before b at bytes n → (a ≡ b) × (m ≡ n)
-puts_unique p q = (p.room ∙ sym q.room, p.on ∙ sym q.on)
+-- of all that print: the bytes in the room, the place, and which room it is
+pub puts_unique : {p a b : Printer} {bytes : List ℕ} → Puts p a bytes → Puts p b bytes
+    → (a.room.now ≡ b.room.now) × (a.at ≡ b.at) × (a.room.ghost_name ≡ b.room.ghost_name)
+puts_unique f g = (f.puts.room ∙ sym g.puts.room, f.puts.on ∙ sym g.puts.on, f.same ∙ sym g.same)

@@ -1,39 +1,51 @@
-// Bytes and numbers into a lent room, from a place on. Each answers the place after what it put. What has no room is left out, and the place then stays at the room's end.
+// Bytes and numbers into a lent room, from a place on.
 #![tactic(auto)]
 
-ghost use Rattle.std.specs.Prelude.{[], ◌∷◌};
+ghost use Rattle.std.specs.Prelude.{[], ◌∷◌, ◌++◌};
 ghost use Rattle.printing.specs.Figures.{figures};
-ghost use Rattle.printing.specs.Putting.{PutsBytes};
+ghost use Rattle.printing.specs.Putting.{Puts};
 
-pub fn put_byte(room: &mut [u8], at: usize, byte: u8) -> usize
-    ensures { PutsBytes room.old room.new at (byte ∷ []) result }
-{
-    if room.len() <= at {
-        return at;
-    }
-    room[at] = byte;
-    at + 1
+// A lent room, and where in it the next byte goes. What has no room is left out, and the place then stays at the room's end.
+#[derive(Drop)]
+pub struct Printer<'a> {
+    pub room: &'a mut [u8],
+    pub at: usize,
 }
 
-pub fn put(room: &mut [u8], at: usize, bytes: &[u8]) -> usize
-    ensures { PutsBytes room.old room.new at bytes.now result }
-{
-    let mut next = at;
-    let mut i = 0;
-    while i < bytes.len() {
-        next = put_byte(room, next, bytes[i]);
-        i += 1;
+impl Printer<'_> {
+    pub fn put_byte(&mut self, byte: u8)
+        ensures { Puts self.old self.new (byte ∷ []) }
+    {
+        if self.at < self.room.len() {
+            self.room[self.at] = byte;
+            self.at += 1;
+        }
     }
-    next
-}
 
-// A number in decimal: what stands before its last figure, and then that.
-pub fn put_number(room: &mut [u8], at: usize, n: usize) -> usize
-    ensures { PutsBytes room.old room.new at (figures n) result }
-{
-    if n < 10 {
-        return put_byte(room, at, 48 + n as u8);
+    pub fn put(&mut self, bytes: &[u8])
+        ensures { Puts self.old self.new bytes.now }
+    {
+        for byte in bytes {
+            self.put_byte(*byte);
+        }
     }
-    let next = put_number(room, at, n / 10);
-    put_byte(room, next, 48 + (n % 10) as u8)
+
+    // A number in decimal: what stands before its last figure, and then that. By hand, since of a `write!` that fails nothing is promised, nor that none fails.
+    pub fn put_number(&mut self, n: usize)
+        ensures { Puts self.old self.new (figures n) }
+    {
+        if n >= 10 {
+            self.put_number(n / 10);
+        }
+        self.put_byte(48 + (n % 10) as u8);
+    }
+
+    // A number with what stands before and after it.
+    pub fn put_within(&mut self, before: &[u8], n: usize, after: &[u8])
+        ensures { Puts self.old self.new (before.now ++ figures n ++ after.now) }
+    {
+        self.put(before);
+        self.put_number(n);
+        self.put(after);
+    }
 }

@@ -44,6 +44,12 @@ report_long c =
       length-append (verdict_line c.told) (total_line c.sheet.total),
     )
 
+-- ---- a line of two numbers, each with what follows it
+
+pub two_halves : (a b : ℕ) → (figures a ++ space ∷ []) ++ (figures b ++ newline ∷ []) ≡ two_numbers a b
+unfolding two_numbers
+two_halves a b = simp append_assoc
+
 -- ---- pairs one after another
 
 pub pairs_append : (ps qs : List Pair) → pair_lines (ps ++ qs) ≡ pair_lines ps ++ pair_lines qs

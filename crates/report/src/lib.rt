@@ -1,11 +1,11 @@
-// The report of a conclusion: its lines, into a room.
+// The report of a conclusion: its lines.
 #![tactic(auto)]
 
-ghost use Rattle.printing.specs.Putting.{PutsBytes};
-ghost use Rattle.report.specs.Report.{two_numbers, verdict_line, total_line, pair_lines, report};
+ghost use Rattle.printing.specs.Putting.{Puts};
+ghost use Rattle.report.specs.Report.{two_numbers, verdict_line, pair_lines, report};
 ghost use Rattle.sheet.specs.Sheet.{kept_pairs};
 
-use printing::{put, put_number};
+use printing::Printer;
 use sheet::{Sheet, kept};
 use verdicts::Told;
 
@@ -17,52 +17,34 @@ pub struct Conclusion {
 }
 
 // Two numbers, a space between them, and the line's end.
-fn put_two(room: &mut [u8], at: usize, first: usize, second: usize) -> usize
-    ensures { PutsBytes room.old room.new at (two_numbers first second) result }
+fn put_two(out: &mut Printer<'_>, first: usize, second: usize)
+    ensures { Puts out.old out.new (two_numbers first second) }
 {
-    let after_first = put_number(room, at, first);
-    let after_space = put(room, after_first, b" ");
-    let after_second = put_number(room, after_space, second);
-    put(room, after_second, b"\n")
+    out.put_within(b"", first, b" ");
+    out.put_within(b"", second, b"\n");
 }
 
-fn put_verdict(room: &mut [u8], at: usize, told: Told) -> usize
-    ensures { PutsBytes room.old room.new at (verdict_line told) result }
+fn put_verdict(out: &mut Printer<'_>, told: Told)
+    ensures { Puts out.old out.new (verdict_line told) }
 {
-    let after_word = put(room, at, b"verdict ");
-    let after_number = put_number(room, after_word, told.number as usize);
-    let after_place = put(room, after_number, b" place ");
-    put_two(room, after_place, told.place, told.also)
-}
-
-fn put_total(room: &mut [u8], at: usize, total: usize) -> usize
-    ensures { PutsBytes room.old room.new at (total_line total) result }
-{
-    let after_word = put(room, at, b"total ");
-    let after_number = put_number(room, after_word, total);
-    put(room, after_number, b"\n")
+    out.put_within(b"verdict ", told.number as usize, b" place ");
+    put_two(out, told.place, told.also);
 }
 
 // One line a kept pair.
-fn put_pairs(room: &mut [u8], at: usize, sheet: Sheet) -> usize
-    ensures { PutsBytes room.old room.new at (pair_lines (kept_pairs sheet)) result }
+fn put_pairs(out: &mut Printer<'_>, sheet: Sheet)
+    ensures { Puts out.old out.new (pair_lines (kept_pairs sheet)) }
 {
-    let lines = kept(sheet.total);
-    let mut next = at;
-    let mut i = 0;
-    while i < lines {
-        let pair = sheet.pairs[i];
-        next = put_two(room, next, pair.first, pair.second);
-        i += 1;
+    for pair in &sheet.pairs[..kept(sheet.total)] {
+        put_two(out, pair.first, pair.second);
     }
-    next
 }
 
-// The whole report, at the start of a room.
-pub fn print(room: &mut [u8], concluded: Conclusion) -> usize
-    ensures { PutsBytes room.old room.new 0 (report concluded) result }
+// The whole report.
+pub fn print(out: &mut Printer<'_>, concluded: Conclusion)
+    ensures { Puts out.old out.new (report concluded) }
 {
-    let after_verdict = put_verdict(room, 0, concluded.told);
-    let after_total = put_total(room, after_verdict, concluded.sheet.total);
-    put_pairs(room, after_total, concluded.sheet)
+    put_verdict(out, concluded.told);
+    out.put_within(b"total ", concluded.sheet.total, b"\n");
+    put_pairs(out, concluded.sheet);
 }

@@ -1,6 +1,7 @@
 -- `review_text_evidence` meets its contract. Assumes nothing.
-use mathlib.Core.Path.{sym, ◌∙◌}
+use mathlib.Core.Path.{refl, sym, ◌∙◌}
 use native.Mathlib.Omega.{arith}
+use borrow.Author.Rules.{rules}
 use lib.Seq.{length-take-le}
 use Rattle.desk.specs.Evidence.{least_evidence}
 use Rattle.desk.proofs.Tabled.{full_numbers, full_threads, full_rows, full_words}
@@ -9,7 +10,7 @@ use Rattle.desk.proofs.review_text_evidence.Goals as goal
 
 pub returns-then-report-lt-EVIDENCE_BYTES : goal.returns-then-report-lt-EVIDENCE_BYTES
 unfolding least_evidence
-returns-then-report-lt-EVIDENCE_BYTES c = evidence_refused _ _ (omega (arith, c.if-report-lt-EVIDENCE_BYTES.true))
+returns-then-report-lt-EVIDENCE_BYTES c = evidence_refused _ (omega (arith, c.if-report-lt-EVIDENCE_BYTES.true))
 
 pub conclude-concluded-requires : goal.conclude-concluded-requires
 conclude-concluded-requires c = (record { numbers = full_numbers; threads = full_threads }, record { wide = full_words; high = full_rows })
@@ -30,5 +31,5 @@ pub returns : goal.returns
 unfolding least_evidence
 returns c =
     let r = c.conclude-concluded in
-    evidenced_text r.ensures full_words (r.auto.relation ∙ full_words) (r.auto.generations ∙ full_rows) (omega (arith, c.if-report-lt-EVIDENCE_BYTES.false))
-    c.print-at.ensures c.put_exhibits.ensures
+    evidenced_text r.ensures full_words (r.auto.relation ∙ full_words) (r.auto.generations ∙ full_rows) (omega (arith, c.if-report-lt-EVIDENCE_BYTES.false)) refl
+    c.print.ensures c.put_exhibits.ensures (search rules)

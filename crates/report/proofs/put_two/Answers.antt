@@ -1,9 +1,7 @@
 -- `put_two` meets its contract. Assumes nothing.
-use Rattle.printing.proofs.Placing.{puts_on}
-use Rattle.report.specs.Report.{two_numbers}
+use Rattle.printing.proofs.Placing.{puts_on, puts_as}
+use Rattle.report.proofs.Lines.{two_halves}
 use Rattle.report.proofs.put_two.Goals as goal
 
 pub returns : goal.returns
-unfolding two_numbers
-returns c =
-    puts_on (puts_on c.put_number-after_first.ensures (puts_on c.put-after_space.ensures c.put_number-after_second.ensures)) c.put.ensures
+returns c = puts_as (two_halves _ _) (puts_on c.put_within.ensures c.put_within-2.ensures)

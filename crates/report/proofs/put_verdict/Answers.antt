@@ -5,5 +5,4 @@ use Rattle.report.proofs.put_verdict.Goals as goal
 
 pub returns : goal.returns
 unfolding verdict_line
-returns c =
-    puts_on (puts_on (puts_on c.put-after_word.ensures c.put_number-after_number.ensures) c.put-after_place.ensures) c.put_two.ensures
+returns c = puts_on c.put_within.ensures c.put_two.ensures

@@ -7,4 +7,4 @@ use Rattle.wording.proofs.put_first.Goals as goal
 pub returns : goal.returns
 unfolding shown_line
 returns c =
-    rw append_assoc (puts_on c.put_within-next.ensures c.put_within.ensures)
+    rw append_assoc (puts_on c.put_within.ensures c.put_within-2.ensures)

@@ -21,4 +21,4 @@ slice_bounds-put_steps-end c = front_long c.fill_apart-steps.ensures
 pub returns : goal.returns
 unfolding reuse_exhibit
 returns c =
-    puts_shown c.fill_apart-steps.ensures _ _ _ c.shown_by-shown.ensures c.put_shown-next.ensures c.put_steps.ensures
+    puts_shown c.fill_apart-steps.ensures _ _ _ c.shown_by-shown.ensures c.put_shown.ensures c.put_steps.ensures

@@ -15,4 +15,4 @@ slice_bounds-put_steps-end c = front_long c.fill_apart-steps.ensures
 pub returns : goal.returns
 unfolding order_exhibit
 returns c =
-    puts_below c.fill_apart-steps.ensures c.put_first-next.ensures c.put_steps.ensures
+    puts_below c.fill_apart-steps.ensures c.put_first.ensures c.put_steps.ensures
