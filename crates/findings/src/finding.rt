@@ -33,6 +33,7 @@ pub fn bare(verdict: Verdict) -> Finding
 }
 
 // The verdict of the pairs of one kind, by their sheet: the first of them, or 0.
+#[tactic(auto, unfolding(sheet::specs::Sheet::most_kept))]
 fn first_told(fault: Fault, sheet: Sheet) -> Verdict
     ensures { (ps : List Pair) → sheet ≡ sheet_of ps → kind_told fault ps result }
 {

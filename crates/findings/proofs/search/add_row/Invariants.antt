@@ -7,7 +7,7 @@ use Rattle.findings.proofs.search.add_row.Given as goal
 abbrev pub invariant-loop-j : goal.invariant-loop-j
 invariant-loop-j l = record {
   added : l.sheet ≡ add_all l.initial.sheet (below l.listing.searched l.listing.fault l.i l.j);
-  on : OnList l.listing.searched l.listing.fault l.i l.j
+  on : OnList l.listing.searched l.listing.fault l.i l.j;
 }
 
 abbrev pub decreases-loop-j : goal.decreases-loop-j
