@@ -7,14 +7,14 @@ use relation::related;
 use sheet::Pair;
 use tables::Table;
 
-// What is looked for.
+// What is looked for. One search goes by it, and the definitions of both kinds take it too, so that a closure for each test would say no more.
 #[derive(Clone, Copy)]
 pub enum Fault {
     Reuse,
     Race,
 }
 
-// What the tests see of a command. The head is the row that its thread begins at.
+// What the tests see of a command. The head is the row that its thread begins at. The kind is a number, since any may stand in the tables of a caller.
 #[derive(Clone, Copy)]
 pub struct Seen {
     pub row: u32,
@@ -24,7 +24,8 @@ pub struct Seen {
     pub head: usize,
 }
 
-// Have c1 and c2 the same barrier, and is c2 one generation after c1?
+// Have c1 and c2 the same barrier, and is c2 one generation after c1? The early returns are for speed, here and below.
+#[tactic(auto, unfolding(crate::specs::Tests::succeeds_by))]
 fn succeeds(c1: Seen, c2: Seen) -> bool
     ensures { result ≡ succeeds_by c1 c2 }
 {
@@ -39,6 +40,7 @@ fn succeeds(c1: Seen, c2: Seen) -> bool
 }
 
 // Is (c1, c2) a reuse fault? Unless its head is a row before it c2 is first, so that past the test there is a row before c2.
+#[tactic(auto, unfolding(crate::specs::Tests::reuse_by))]
 fn is_reuse(relation: &[u32], m: u32, c1: Seen, c2: Seen) -> bool
     ensures { result ≡ reuse_by relation.now m c1 c2 }
 {
@@ -52,6 +54,7 @@ fn is_reuse(relation: &[u32], m: u32, c1: Seen, c2: Seen) -> bool
 }
 
 // Are x and y accesses to the same address, and is one a write?
+#[tactic(auto, unfolding(crate::specs::Tests::conflict_by))]
 fn conflict(x: Seen, y: Seen) -> bool
     ensures { result ≡ conflict_by x y }
 {
@@ -71,6 +74,7 @@ fn unordered(relation: &[u32], m: u32, x: u32, y: u32) -> bool
 }
 
 // Is (x, y) a race?
+#[tactic(auto, unfolding(crate::specs::Tests::race_by))]
 fn is_race(relation: &[u32], m: u32, x: Seen, y: Seen) -> bool
     ensures { result ≡ race_by relation.now m x y }
 {

@@ -19,6 +19,7 @@ use Rattle.faults.specs.Faults.{faults}
 use Rattle.faults.proofs.Pairs.{all_faults}
 use Rattle.faults.proofs.Tests.{is_faulty}
 use Rattle.findings.specs.declared.finding.Finding.{Finding}
+use Rattle.findings.specs.declared.searched.Searched.{Searched}
 use Rattle.findings.specs.Findings.{first_pair}
 use Rattle.findings.specs.Needs.{is_fault_at, all_found, Found, Looked, LookedBy, LookedOver}
 
@@ -57,14 +58,15 @@ looked_race (p ∷ ps) qs F h G = absurd (omega (arith, ap (λ (s : Sheet). s.to
 
 -- ---- by the lengths
 
-found_faults : (commands : List ℕ) {lengths heads : List ℕ} → Headed lengths heads (rows commands) → (generations relation : List ℕ) (f : Fault)
-    → all_found heads commands generations relation f ≡ faults commands lengths (number_at generations) (related relation (rows commands)) f
+found_faults : (s : Searched) {lengths : List ℕ} → Headed lengths s.heads.now (rows s.commands.now) → (f : Fault)
+    → all_found s f ≡ faults s.commands.now lengths (number_at s.generations.now) (related s.relation.now (rows s.commands.now)) f
 unfolding is_fault_at
-found_faults commands {lengths} {heads} H generations relation f =
-    all_faults commands lengths (number_at generations) (related relation (rows commands)) f (is_fault_at heads commands generations relation f) (is_faulty commands lengths heads H generations relation f)
+found_faults s {lengths} H f =
+    all_faults s.commands.now lengths (number_at s.generations.now) (related s.relation.now (rows s.commands.now)) f (is_fault_at s f)
+    (is_faulty s.commands.now lengths s.heads.now H s.generations.now s.relation.now f)
 
-pub looked_over : (commands : List ℕ) {lengths heads : List ℕ} → Headed lengths heads (rows commands) → (generations relation : List ℕ) {r : Finding}
-    → LookedBy heads commands generations relation r → LookedOver commands lengths generations relation r
-looked_over commands H generations relation L =
-    let same = found_faults commands H generations relation in
+pub looked_over : (s : Searched) {lengths : List ℕ} → Headed lengths s.heads.now (rows s.commands.now) → {r : Finding}
+    → LookedBy s r → LookedOver s.commands.now lengths s.generations.now s.relation.now r
+looked_over s H L =
+    let same = found_faults s H in
     record { verdict = rw (← same Reuse, ← same Race) L.verdict; sheet = rw (← same Reuse, ← same Race) L.sheet }

@@ -9,6 +9,7 @@ ghost use Rattle.findings.specs.Promise.{AnswersBare};
 ghost use Rattle.findings.specs.Needs.{all_found, kind_told, Found, LookedBy, LookedOver};
 
 use crate::search::search;
+use crate::searched::Searched;
 use faults::Fault;
 use rooms::refuse_sizes;
 use sheet::Sheet;
@@ -32,6 +33,7 @@ pub fn bare(verdict: Verdict) -> Finding
 }
 
 // The verdict of the pairs of one kind, by their sheet: the first of them, or 0.
+#[tactic(auto, unfolding(sheet::specs::Sheet::most_kept))]
 fn first_told(fault: Fault, sheet: Sheet) -> Verdict
     ensures { (ps : List Pair) → sheet ≡ sheet_of ps → kind_told fault ps result }
 {
@@ -46,17 +48,10 @@ fn first_told(fault: Fault, sheet: Sheet) -> Verdict
 }
 
 // The faults of one kind.
-fn find_kind(
-    fault: Fault,
-    commands: &[u32],
-    generations: &[u32],
-    relation: &[u32],
-    heads: &[usize; Table::ROWS],
-) -> Finding
-    requires { (rows commands.now ≤ most_rows) × (rows commands.now ≤ length generations.now) }
-    ensures { Found fault (all_found heads.now commands.now generations.now relation.now fault) result }
+fn find_kind(fault: Fault, searched: &Searched) -> Finding
+    ensures { Found fault (all_found searched.now fault) result }
 {
-    let sheet = search(fault, commands, generations, relation, heads);
+    let sheet = search(fault, searched);
     Finding {
         verdict: first_told(fault, sheet),
         sheet,
@@ -64,20 +59,14 @@ fn find_kind(
 }
 
 // 10, 11 or 0, with the sheet. Races are looked for only when there is no reuse fault.
-fn look(
-    commands: &[u32],
-    generations: &[u32],
-    relation: &[u32],
-    heads: &[usize; Table::ROWS],
-) -> Finding
-    requires { (rows commands.now ≤ most_rows) × (rows commands.now ≤ length generations.now) }
-    ensures { LookedBy heads.now commands.now generations.now relation.now result }
+fn look(searched: &Searched) -> Finding
+    ensures { LookedBy searched.now result }
 {
-    let reuses = find_kind(Fault::Reuse, commands, generations, relation, heads);
+    let reuses = find_kind(Fault::Reuse, searched);
     if reuses.sheet.total != 0 {
         return reuses;
     }
-    find_kind(Fault::Race, commands, generations, relation, heads)
+    find_kind(Fault::Race, searched)
 }
 
 // The same of the tables, by the heads of their rows.
@@ -87,7 +76,12 @@ fn look_over(commands: &[u32], lengths: &[u32], generations: &[u32], relation: &
 {
     let mut heads = [0; Table::ROWS];
     put_heads(lengths, &mut heads);
-    look(commands, generations, relation, &heads)
+    look(&Searched {
+        commands,
+        generations,
+        relation,
+        heads: &heads,
+    })
 }
 
 // Any numbers as tables, as generations, as a table of what reaches what. Only lengths are refused, and the rooms are only read.

@@ -1,27 +1,22 @@
 // Lists of the commands that a fault can pair, so that a search walks no others.
-ghost use Rattle.std.specs.Prelude.{◌≡◌, ◌+◌, ◌<◌, ◌^◌};
+#![tactic(auto, unfolding(tables::specs::Limits::most_rows, tables::specs::Limits::barriers))]
+
+ghost use Rattle.std.specs.Prelude.{◌≡◌, ◌+◌, ◌<◌};
 ghost use Rattle.tables.specs.Limits.{most_rows};
 ghost use Rattle.tables.specs.Rows.{rows, name};
 ghost use Rattle.rooms.specs.Rooms.{number_at};
-ghost use Rattle.rooms.specs.Needs.{OneCommand};
-ghost use Rattle.findings.specs.Needs.{listed, list_of_barrier, key, Lists, Candidate, Walks, Unlisted};
+ghost use Rattle.findings.specs.Needs.{listed, list_of_barrier, key, Lists, Candidate};
 
+use crate::searched::Searched;
 use faults::Fault;
 use tables::Table;
 
-// A number of 32 bits among those of an index.
-fn wide(x: u32) -> usize
-    ensures { (result ≡ x) × (result < 2 ^ 32) }
-{
-    x as usize
-}
-
 // Can such a fault pair command c?
-fn listed(fault: Fault, commands: &[u32], c: usize) -> bool
-    requires { c < rows commands.now }
-    ensures { result ≡ listed fault commands.now c }
+fn listed(fault: Fault, searched: &Searched, c: usize) -> bool
+    requires { c < rows searched.now.commands.now }
+    ensures { result ≡ listed searched.now fault c }
 {
-    let kind = commands[c * 3];
+    let kind = searched.commands[c * 3];
     match fault {
         Fault::Reuse => Table::ARRIVE <= kind,
         Fault::Race => kind < Table::ARRIVE,
@@ -29,64 +24,69 @@ fn listed(fault: Fault, commands: &[u32], c: usize) -> bool
 }
 
 // The list of c's barrier and of a generation so many after c's own.
-fn barrier_list(commands: &[u32], generations: &[u32], c: usize, after: usize) -> usize
-    requires { OneCommand commands.now generations.now c × (after < most_rows) }
-    ensures { (result ≡ list_of_barrier (name commands.now c) (number_at generations.now c + after)) × (result < most_rows) }
+fn barrier_list(searched: &Searched, c: usize, after: usize) -> usize
+    requires { (c < rows searched.now.commands.now) × (after < most_rows) }
+    ensures { (result ≡ list_of_barrier (name searched.now.commands.now c)
+        (number_at searched.now.generations.now c + after)) × (result < most_rows) }
 {
-    let first = wide(commands[c * 3 + 1]) * (Table::ROWS / Table::BARRIERS);
-    (first + wide(generations[c]) + after) % Table::ROWS
+    let first = searched.commands[c * 3 + 1] as usize * (Table::ROWS / Table::BARRIERS);
+    (first + searched.generations[c] as usize + after) % Table::ROWS
 }
 
 // The list of command c.
-fn key(fault: Fault, commands: &[u32], generations: &[u32], c: usize) -> usize
-    requires { OneCommand commands.now generations.now c }
-    ensures { (result ≡ key fault commands.now generations.now c) × (result < most_rows) }
+fn key(fault: Fault, searched: &Searched, c: usize) -> usize
+    requires { c < rows searched.now.commands.now }
+    ensures { (result ≡ key searched.now fault c) × (result < most_rows) }
 {
     match fault {
-        Fault::Reuse => barrier_list(commands, generations, c, 0),
-        Fault::Race => wide(commands[c * 3 + 1]) % Table::ROWS,
+        Fault::Reuse => barrier_list(searched, c, 0),
+        Fault::Race => searched.commands[c * 3 + 1] as usize % Table::ROWS,
     }
 }
 
-// Each command is put in front of its list, from the last to the first.
-pub(crate) fn list(
-    fault: Fault,
-    commands: &[u32],
-    generations: &[u32],
-    fronts: &mut [usize],
-    nexts: &mut [usize],
-)
-    requires { Unlisted commands.now generations.now fronts.old nexts.old }
-    ensures { Lists fault commands.now generations.now fronts.new nexts.new 0 }
-{
-    let mut c = commands.len() / 3;
-    while 0 < c {
-        c -= 1;
-        if listed(fault, commands, c) {
-            let k = key(fault, commands, generations, c);
-            nexts[c] = fronts[k];
-            fronts[k] = c;
+// The front of each list, and the next after each command. Where there is none stands a number past all rows, so that a walk ends by the test that it makes anyway.
+#[derive(Drop)]
+pub(crate) struct Listing<'a> {
+    pub(crate) fault: Fault,
+    pub(crate) searched: Searched<'a>,
+    fronts: [usize; Table::ROWS],
+    pub(crate) nexts: [usize; Table::ROWS],
+    ghost lists: { Lists searched fault fronts nexts 0 },
+}
+
+impl<'a> Listing<'a> {
+    // Each command is put in front of its list, from the last to the first.
+    pub(crate) fn new(fault: Fault, searched: Searched<'a>) -> Listing<'a>
+        ensures { (result.fault ≡ fault) × (result.searched ≡ searched.entry) }
+    {
+        let mut fronts = [Table::ROWS; Table::ROWS];
+        let mut nexts = [Table::ROWS; Table::ROWS];
+        for c in (0..searched.rows()).rev() {
+            if listed(fault, &searched, c) {
+                let k = key(fault, &searched, c);
+                nexts[c] = fronts[k];
+                fronts[k] = c;
+            }
+        }
+        Listing {
+            fault,
+            searched,
+            fronts,
+            nexts,
         }
     }
-}
 
-// The first candidate of outer number i. For reuse it is the front of the list of the generation before; for races, whose pairs go upward, it is the next after i.
-pub(crate) fn first_candidate(
-    fault: Fault,
-    commands: &[u32],
-    generations: &[u32],
-    fronts: &[usize; Table::ROWS],
-    nexts: &[usize; Table::ROWS],
-    i: usize,
-) -> usize
-    requires { Walks fault commands.now generations.now fronts.now nexts.now i }
-    ensures { Candidate fault commands.now generations.now i 0 result }
-{
-    if !listed(fault, commands, i) {
-        return Table::ROWS;
-    }
-    match fault {
-        Fault::Reuse => fronts[barrier_list(commands, generations, i, Table::ROWS - 1)],
-        Fault::Race => nexts[i],
+    // The first candidate of outer number i. For reuse it is the front of the list of the generation before; for races, whose pairs go upward, it is the next after i.
+    pub(crate) fn first_candidate(&self, i: usize) -> usize
+        requires { i < rows self.now.searched.commands.now }
+        ensures { Candidate self.now.searched self.now.fault i 0 result }
+    {
+        if !listed(self.fault, &self.searched, i) {
+            return Table::ROWS;
+        }
+        match self.fault {
+            Fault::Reuse => self.fronts[barrier_list(&self.searched, i, Table::ROWS - 1)],
+            Fault::Race => self.nexts[i],
+        }
     }
 }

@@ -12,6 +12,6 @@ AnswersKept total r = r ≡ min total most_kept
 abbrev pub AnswersEmpty : (r : Sheet) → Type 0
 AnswersEmpty r = r ≡ sheet_of []
 
--- `Sheet::add`, `add_to` of the lent sheet, and `with_pair`
+-- `Sheet::add`, and `add_to` of the lent sheet
 abbrev pub AddsPair : (sheet : Sheet) (pair : Pair) (sheet' : Sheet) → Type 0
 AddsPair sheet pair sheet' = sheet' ≡ added sheet pair

@@ -1,8 +1,6 @@
 // The fault sheet: the first pairs that are found are kept, and later ones only raise the total.
 #![tactic(auto)]
 
-ghost use Rattle.std.specs.Prelude.{◌≡◌};
-ghost use Rattle.sheet.specs.Sheet.{raised};
 ghost use Rattle.sheet.specs.Promise.{AnswersKept, AnswersEmpty, AddsPair};
 
 #[derive(Clone, Copy)]
@@ -11,36 +9,26 @@ pub struct Pair {
     pub second: usize,
 }
 
+// No heap, so the pairs stand in an array of fixed length with their total beside it, which goes on where the array is full.
 #[derive(Clone, Copy)]
 pub struct Sheet {
     pub pairs: [Pair; Sheet::KEPT],
     pub total: usize,
 }
 
-// A total with one pair more; at the largest number of its type it stays.
-fn one_more(total: usize) -> usize
-    ensures { result ≡ raised total }
-{
-    if total < usize::MAX {
-        return total + 1;
-    }
-    total
-}
-
 // So many pairs of a total are kept.
+#[tactic(auto, unfolding(crate::specs::Sheet::most_kept))]
 pub fn kept(total: usize) -> usize
     ensures { AnswersKept total result }
 {
-    if total < Sheet::KEPT {
-        return total;
-    }
-    Sheet::KEPT
+    total.min(Sheet::KEPT)
 }
 
 impl Sheet {
     // so many pairs are kept
     pub const KEPT: usize = 16;
 
+    #[tactic(auto, unfolding(crate::specs::Sheet::sheet_of, crate::specs::Sheet::firsts, crate::specs::Sheet::most_kept))]
     pub fn empty() -> Self
         ensures { AnswersEmpty result }
     {
@@ -55,14 +43,15 @@ impl Sheet {
     }
 
     // One pair more, by value.
+    #[tactic(auto, unfolding(crate::specs::Sheet::added, crate::specs::Sheet::most_kept, crate::specs::Sheet::most_counted))]
     pub fn add(mut self, pair: Pair) -> Self
         ensures { AddsPair self pair result }
     {
         let n = self.total;
-        self.total = one_more(n);
         if n < Sheet::KEPT {
             self.pairs[n] = pair;
         }
+        self.total = n.saturating_add(1);
         self
     }
 }
@@ -71,15 +60,5 @@ impl Sheet {
 pub fn add_to(sheet: &mut Sheet, pair: Pair)
     ensures { AddsPair sheet.old pair sheet.new }
 {
-    let s = *sheet;
-    *sheet = s.add(pair);
-}
-
-// One pair more for a caller that has the sheet by value: it is lent to `add_to` and comes back.
-pub fn with_pair(sheet: Sheet, pair: Pair) -> Sheet
-    ensures { AddsPair sheet pair result }
-{
-    let mut lent = sheet;
-    add_to(&mut lent, pair);
-    lent
+    *sheet = sheet.add(pair);
 }

@@ -1,6 +1,4 @@
 -- A sheet tells whether there is a pair, and the first. Assumes nothing.
-use borrow.Author.Rules.{rules}
-use Rattle.sheet.specs.Sheet.{most_kept}
 use Rattle.findings.specs.Needs.{fault_number}
 use Rattle.findings.proofs.Looks.{told_none, told_first}
 use Rattle.findings.proofs.finding.first_told.Goals as goal
@@ -13,15 +11,3 @@ returns-in-Reuse c ps is = rw c.in-Reuse.is (told_first 10 _ ps is c.if-sheet-eq
 
 pub returns-in-Race : goal.returns-in-Race
 returns-in-Race c ps is = rw c.in-Race.is (told_first 11 _ ps is c.if-sheet-eq0.false)
-
-pub bounds-sheet-0 : goal.bounds-sheet-0
-unfolding most_kept
-bounds-sheet-0 c = search rules
-
-pub enum_told-1 : goal.enum_told-1
-unfolding most_kept
-enum_told-1 c = search rules
-
-pub enum_told-in-Race : goal.enum_told-in-Race
-unfolding most_kept
-enum_told-in-Race c = search rules

@@ -1,24 +1,28 @@
--- Empty lists are filled, and then walked. Assumes nothing.
-use Rattle.tables.specs.Limits.{most_rows}
-use Rattle.findings.proofs.Listing.{unlisted}
-use borrow.Author.Rules.{rules}
+use Rattle.std.proofs.Common.{◌<◌, ◌∙◌, arith}
+use Rattle.tables.specs.Rows.{rows}
+use Rattle.faults.specs.Faults.{pair_of}
+use Rattle.findings.specs.Needs.{is_fault_at}
+use Rattle.findings.proofs.Searching.{all_begun, total_few, row_added}
 use Rattle.findings.proofs.search.search.Goals as goal
 
-pub list-requires : goal.list-requires
-unfolding most_rows
-list-requires c = unlisted c.args.commands.now c.args.generations.now c.requires.0 c.requires.1
+pub loop-i-init : goal.loop-i-init
+loop-i-init c =
+    let s = c.args.searched.now in
+    c.empty-found.ensures ∙ all_begun (is_fault_at s c.args.fault) (pair_of c.args.fault) (rows s.commands.now)
 
-pub search_rows-requires : goal.search_rows-requires
-search_rows-requires c = (c.requires.1, c.list.ensures)
+pub add_row-requires : goal.add_row-requires
+add_row-requires c =
+    let s = c.args.searched.now in
+    let l = c.loop-i in
+    let low : l.i < rows s.commands.now = omega arith in (
+      omega (arith, total_few (is_fault_at s c.args.fault) (pair_of c.args.fault) (rows s.commands.now) l.found l.i s.few low l.invariant),
+      rw c.new-listing.ensures.1 low,
+    )
 
-pub slice_bounds-list-end : goal.slice_bounds-list-end
-unfolding most_rows
-slice_bounds-list-end c = search rules
-
-pub slice_bounds-list-end-2 : goal.slice_bounds-list-end-2
-unfolding most_rows
-slice_bounds-list-end-2 c = search rules
-
-pub returns : goal.returns
-unfolding most_rows
-returns c = search rules
+pub loop-i-preserved : goal.loop-i-preserved
+loop-i-preserved c =
+    let s = c.args.searched.now in
+    let l = c.loop-i in
+    let low : l.i < rows s.commands.now = omega arith in
+    let (f, q) = c.new-listing.ensures in
+    row_added (is_fault_at s c.args.fault) (pair_of c.args.fault) (rows s.commands.now) l.found l.i s.few low l.invariant (rw (f, q) at c.add_row.ensures)
