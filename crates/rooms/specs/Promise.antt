@@ -2,11 +2,12 @@
 use Rattle.std.specs.Prelude.{◌≡◌, Bool, List, ℕ, Result, eqb}
 use Rattle.verdicts.specs.Verdicts.{told_of}
 use Rattle.verdicts.specs.declared.Refusal.{Refusal}
+use Rattle.rooms.specs.declared.short.Room.{Room}
 use Rattle.rooms.specs.Short.{first_short}
 use Rattle.rooms.specs.Refusals.{review_refusal, size_refusal}
 
 -- `short_room`
-abbrev pub AnswersShortRoom : (rooms : List (List ℕ)) (r : Result (Unit {0}) Refusal) → Type 0
+abbrev pub AnswersShortRoom : (rooms : List Room) (r : Result (Unit {0}) Refusal) → Type 0
 AnswersShortRoom rooms r = told_of r ≡ first_short rooms
 
 -- `refuse_sizes`

@@ -1,7 +1,7 @@
 // Refusals 1 to 4, before a room is touched.
 ghost use Rattle.rooms.specs.Promise.{AnswersRefuseSizes, AnswersRefuse, AnswersAdmits};
 
-use crate::short::short_room;
+use crate::short::{Room, short_room};
 use relation::table_words;
 use rules::{bad_commands, check_tables};
 use verdicts::Refusal;
@@ -14,16 +14,22 @@ pub fn refuse_sizes(commands: &[u32], wide: usize, high: usize) -> Result<(), Re
         return Err(Refusal::BadCommands);
     }
     let m = commands.len() / 3;
-    short_room(&[[0, table_words(m as u32), wide], [1, m, high]])
+    short_room(&[
+        Room {
+            digit: 0,
+            needed: table_words(m as u32),
+            given: wide,
+        },
+        Room {
+            digit: 1,
+            needed: m,
+            given: high,
+        },
+    ])
 }
 
 // 1 to 4, of tables and the lengths of the two rooms.
-pub fn refuse(
-    commands: &[u32],
-    lengths: &[u32],
-    wide: usize,
-    high: usize,
-) -> Result<(), Refusal>
+pub fn refuse(commands: &[u32], lengths: &[u32], wide: usize, high: usize) -> Result<(), Refusal>
     ensures { AnswersRefuse commands.now lengths.now wide high result }
 {
     check_tables(commands, lengths)?;

@@ -3,13 +3,21 @@ ghost use Rattle.rooms.specs.Promise.{AnswersShortRoom};
 
 use verdicts::Refusal;
 
-// The first of the rooms that is short. A room is three numbers: its digit, the length that is needed, and the length that was given.
-pub fn short_room(rooms: &[[usize; 3]]) -> Result<(), Refusal>
+// A room by its digit, with the length that is needed and the length that was given.
+#[derive(Clone, Copy)]
+pub struct Room {
+    pub digit: usize,
+    pub needed: usize,
+    pub given: usize,
+}
+
+// The first of the rooms that is short.
+pub fn short_room(rooms: &[Room]) -> Result<(), Refusal>
     ensures { AnswersShortRoom rooms.now result }
 {
-    for &[digit, needed, given] in rooms {
-        if given < needed {
-            return Err(Refusal::ShortRoom(digit));
+    for room in rooms {
+        if room.given < room.needed {
+            return Err(Refusal::ShortRoom(room.digit));
         }
     }
     Ok(())
