@@ -93,9 +93,8 @@ pub fn find_faults(
 ) -> Finding
     ensures { Finds commands.now lengths.now generations.now relation.now result }
 {
-    let refusal = refuse_sizes(commands, relation.len(), generations.len());
-    if refusal.told().number != 0 {
-        return bare(refusal);
+    if let Err(refusal) = refuse_sizes(commands, relation.len(), generations.len()) {
+        return bare(refusal.into());
     }
     look_over(commands, lengths, generations, relation)
 }

@@ -10,7 +10,7 @@ use crate::pairs::{NUMBERS, put_pairs};
 use rooms::refuse_sizes;
 use sweeps::put_reach;
 use tables::{Table, put_heads};
-use verdicts::Verdict;
+use verdicts::Refusal;
 
 // The rooms suffice: pairs are listed, and what they reach is happens-before. A seat that nobody takes holds no row's number.
 fn put_reached(commands: &[u32], lengths: &[u32], generations: &[u32], relation: &mut [u32])
@@ -41,13 +41,10 @@ pub fn put_happens_before(
     lengths: &[u32],
     generations: &[u32],
     relation: &mut [u32],
-) -> Verdict
+) -> Result<(), Refusal>
     ensures { PutsHappensBefore commands.now lengths.now generations.now relation.old result relation.new }
 {
-    let refusal = refuse_sizes(commands, relation.len(), generations.len());
-    if refusal.told().number != 0 {
-        return refusal;
-    }
+    refuse_sizes(commands, relation.len(), generations.len())?;
     put_reached(commands, lengths, generations, relation);
-    Verdict::Clean
+    Ok(())
 }

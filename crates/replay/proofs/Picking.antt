@@ -90,20 +90,18 @@ said_by ρ c d x e = rw e
 -- what stands before x is said of the commands before x
 pub record Said (ρ : ℕ → ℕ → Bool) (c d : ℕ) (before after : List Bool) (x : ℕ) : Type 0 where
   pub long : length after ≡ length before
-  pub within : x ≤ length before
   pub each : (k : ℕ) → k < x → does_go_first after k ≡ apart_from ρ c d k
 
 module _ (ρ : ℕ → ℕ → Bool) (c d : ℕ) (before : List Bool) where
   pub said_none : Said ρ c d before before 0
-  said_none = record { long = refl; within = omega arith; each = below_none _ }
+  said_none = record { long = refl; each = below_none _ }
 
   module _ {after : List Bool} {x : ℕ} (S : Said ρ c d before after x) where
-    pub said_more : x < length after → (b : Bool) → b ≡ apart_from ρ c d x → Said ρ c d before (set after x b) (x + 1)
+    pub said_more : x < length before → (b : Bool) → b ≡ apart_from ρ c d x → Said ρ c d before (set after x b) (x + 1)
     said_more l b e =
         record {
           long = length-set after x b ∙ S.long;
-          within = omega (arith, S.long);
-          each = below_more _ x (λ k m. get_or-set_other after x k b false (omega arith) ∙ S.each k m) (get_or-set_same after x b false l ∙ e);
+          each = below_more _ x (λ k m. get_or-set_other after x k b false (omega arith) ∙ S.each k m) (get_or-set_same after x b false (omega (arith, S.long)) ∙ e);
         }
 
     pub said_all : length after ≤ x → PutsApart ρ c d before after

@@ -6,28 +6,25 @@ use Prim.Native.Nat.{ℕ, ◌≤◌}
 use native.Mathlib.Decide.{ℕ_discrete}
 use Rattle.tables.specs.Rows.{rows}
 use Rattle.rules.specs.Rules.{Keeps, checked}
-use Rattle.verdicts.specs.Verdicts.{numbered}
+use Rattle.verdicts.specs.Verdicts.{tell, refused}
 use Rattle.verdicts.specs.declared.Told.{Told}
-use Rattle.verdicts.specs.declared.Verdict.{Verdict}
+use Rattle.verdicts.specs.declared.Refusal.{Refusal}
 use Rattle.rules.proofs.Rules.{passes_zero, kept}
-use Rattle.rules.proofs.Checked.{check_first, check_second}
-use Rattle.verdicts.proofs.FirstTold.{or_first}
+use Rattle.verdicts.proofs.FirstTold.{or_first, or_refused, or_passed}
 use Rattle.rooms.specs.Short.{room_of, first_short}
 use Rattle.rooms.proofs.Rooms.{more_long, all_long, none_either}
 use Rattle.replay.specs.Writer.{writer_rooms, unwritten}
 
--- the check of tables said v
-module _ (commands lengths : List ℕ) (v : Verdict) {told : Told} (check : numbered v ≡ checked commands lengths) (said : told ≡ numbered v) where
-  -- 1 to 4 for the writer
-  module _ (room : ℕ) where
-    pub unwritten_tables : told.number ≢ 0 → numbered v ≡ unwritten commands lengths room
-    unfolding unwritten
-    unwritten_tables n = check_first commands lengths v check said _ n
+module _ (commands lengths : List ℕ) (room : ℕ) where
+  -- the check of tables refused them
+  pub unwritten_tables : (r : Refusal) → refused r ≡ checked commands lengths → refused r ≡ unwritten commands lengths room
+  unfolding unwritten
+  unwritten_tables r e = or_refused r e (first_short (writer_rooms (rows commands) room))
 
-    -- of tables that pass only the room can be refused
-    pub unwritten_room : told.number ≡ 0 → first_short (writer_rooms (rows commands) room) ≡ unwritten commands lengths room
-    unfolding unwritten
-    unwritten_room e = check_second commands lengths v check said (first_short (writer_rooms (rows commands) room)) e
+  -- of tables that pass only the room can be refused
+  pub unwritten_room : tell 0 0 0 ≡ checked commands lengths → first_short (writer_rooms (rows commands) room) ≡ unwritten commands lengths room
+  unfolding unwritten
+  unwritten_room e = or_passed e (first_short (writer_rooms (rows commands) room))
 
 -- a room that is not told short is long enough
 pub writer_fits : (m room : ℕ) → (first_short (writer_rooms m room)).number ≡ 0 → m ≤ room

@@ -13,12 +13,12 @@ use borrow.Author.Tests.{le-ltb}
 use Rattle.tables.specs.Limits.{most_rows}
 use Rattle.tables.specs.Rows.{rows}
 use Rattle.rules.specs.Rules.{Keeps}
-use Rattle.verdicts.specs.Verdicts.{numbered}
+use Rattle.std.specs.Prelude.{Result, Ok, Err}
+use Rattle.verdicts.specs.declared.Refusal.{Refusal}
 use Rattle.verdicts.specs.declared.Told.{Told}
 use Rattle.relation.specs.Table.{words, inside, related}
 use Rattle.relation.proofs.Truth.{clashing, both, isnt}
 use Rattle.turns.specs.Turns.{does_go_first}
-use Rattle.replay.specs.declared.writer.Written.{Written}
 use Rattle.replay.specs.Writer.{schedule_by, schedule, apart_from}
 use Rattle.replay.specs.Needs.{first_schedule, PutsApart}
 use Rattle.steps.specs.declared.state.Replay.{Replay}
@@ -64,29 +64,28 @@ wrote_first early commands lengths before {now} {s} {n} e l F =
     (ap (λ (r : List ℕ). r ++ drop m before) (filled_room F ∙ ap (λ (l : List ℕ). l ++ drop n (take m before)) is)
     ∙ append_assoc σ (drop n (take m before)) (drop m before) ∙ ap (λ (l : List ℕ). σ ++ l) back)
 
-module _ {commands lengths before after : List ℕ} {r : Written} where
+module _ {commands lengths before after : List ℕ} where
   -- schedules that are the same for tables that pass
-  same : (σ τ : List ℕ) → (Keeps commands lengths → σ ≡ τ) → WritesBy σ commands lengths before after r → WritesBy τ commands lengths before after r
-  same σ τ e W =
+  same : (σ τ : List ℕ) → (Keeps commands lengths → σ ≡ τ) → (r : Result ℕ Refusal) → WritesBy σ commands lengths before after r → WritesBy τ commands lengths before after r
+  same σ τ e (Err r) W = record { refusal = W.refusal; refused = W.refused; wrote = tt; complete = tt }
+  same σ τ e (Ok n) W =
+      let is : σ ≡ τ = e (unwritten_keeps commands lengths (length before) (ap (λ (t : Told). t.number) (sym W.refusal))) in
       record {
-        verdict = W.verdict;
-        refused = W.refused;
-        wrote = λ z. subst (λ (ρ : List ℕ). FilledBy ρ before after r.length) (is z) (W.wrote z);
-        complete = λ z. subst (Complete commands lengths) (is z) (W.complete z);
+        refusal = W.refusal;
+        refused = tt;
+        wrote = subst (λ (ρ : List ℕ). FilledBy ρ before after n) is W.wrote;
+        complete = subst (Complete commands lengths) is W.complete;
       }
-    where
-      is : (numbered r.verdict).number ≡ 0 → σ ≡ τ
-      is z = e (unwritten_keeps commands lengths (length before) (ap (λ (t : Told). t.number) (sym W.verdict) ∙ z))
 
-  pub wrote_lowest : WritesBy (first_schedule [] commands lengths) commands lengths before after r → WritesSchedule commands lengths before after r
+  pub wrote_lowest : (r : Result ℕ Refusal) → WritesBy (first_schedule [] commands lengths) commands lengths before after r → WritesSchedule commands lengths before after r
   unfolding schedule
-  wrote_lowest = same _ _ (λ _. sym (schedule_alike (λ s. picks_lowest (does_go_first []) lengths s (nothing_first [] refl)) commands lengths))
+  wrote_lowest r = same _ _ (λ _. sym (schedule_alike (λ s. picks_lowest (does_go_first []) lengths s (nothing_first [] refl)) commands lengths)) r
 
-  pub wrote_apart : (relation : List ℕ) (c d : ℕ) {m a : ℕ} {early early' : List Bool} → m ≡ min (rows commands) most_rows → a ≡ min c most_rows → length early ≡ most_rows
+  pub wrote_apart : (r : Result ℕ Refusal) (relation : List ℕ) (c d : ℕ) {m a : ℕ} {early early' : List Bool} → m ≡ min (rows commands) most_rows → a ≡ min c most_rows → length early ≡ most_rows
       → PutsApart (related relation m) a d early early' → WritesBy (first_schedule early' commands lengths) commands lengths before after r
       → WritesApart commands lengths relation c d before after r
-  wrote_apart relation c d {m} {a} {early} {early'} e f l A =
+  wrote_apart r relation c d {m} {a} {early} {early'} e f l A =
       same _ _ (λ K.
       let q : m ≡ rows commands = omega (arith, K.few_rows) in
       schedule_alike (first_alike K (λ x lx.
-      A.each x (omega (arith, K.few_rows)) ∙ ap (λ (n : ℕ). apart_from (related relation n) a d x) q ∙ few_apart relation (rows commands) c d x K.few_rows f)) commands lengths)
+      A.each x (omega (arith, K.few_rows)) ∙ ap (λ (n : ℕ). apart_from (related relation n) a d x) q ∙ few_apart relation (rows commands) c d x K.few_rows f)) commands lengths) r

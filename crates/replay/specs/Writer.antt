@@ -5,6 +5,7 @@ use Rattle.tables.specs.Rows.{rows}
 use Rattle.rules.specs.Rules.{checked}
 use Rattle.verdicts.specs.FirstTold.{or_else}
 use Rattle.verdicts.specs.declared.Told.{Told}
+use Rattle.rooms.specs.declared.short.Room.{Room}
 use Rattle.rooms.specs.Short.{room_of, first_short}
 use Rattle.steps.specs.declared.state.Replay.{Replay}
 use Rattle.steps.specs.State.{start}
@@ -32,7 +33,7 @@ apart_schedule commands lengths ρ c d = schedule_by (picked_first (apart_from �
 -- ---- refusals
 
 -- the room of a schedule writer, which is lent no other: 2 the schedule room (R39)
-abbrev pub writer_rooms : (m given : ℕ) → List (List ℕ)
+abbrev pub writer_rooms : (m given : ℕ) → List Room
 writer_rooms m given = room_of 2 m given ∷ []
 
 -- 1 to 4, of tables and the length of the room (R25, R37)

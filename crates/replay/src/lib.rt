@@ -5,4 +5,4 @@ mod offered; // the judge of an offered schedule: 5 to 9
 mod writer; // the schedule writers
 
 pub use offered::{Judged, judge};
-pub use writer::{Written, write_apart, write_schedule};
+pub use writer::{write_apart, write_schedule};

@@ -19,11 +19,10 @@ pub struct Judged {
 fn conclude(replayed: Replayed, lengths: &[u32]) -> Verdict
     ensures { numbered result ≡ judged lengths.now replayed }
 {
-    let verdict = replayed.verdict;
-    if verdict.told().number != 0 {
-        return verdict;
+    match replayed.verdict {
+        Verdict::Clean => replayed.state.ending(lengths, replayed.steps),
+        verdict => verdict,
     }
-    replayed.state.ending(lengths, replayed.steps)
 }
 
 // Any tables, any schedule: 5 to 9, or 0. The tables are not checked, and nothing is written.

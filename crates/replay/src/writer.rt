@@ -6,46 +6,36 @@ ghost use Rattle.replay.specs.Needs.{first_schedule, PutsApart};
 ghost use Rattle.replay.specs.Doors.{WritesBy, WritesSchedule, WritesApart};
 
 use relation::related;
-use rooms::short_room;
+use rooms::{Room, short_room};
 use rules::check_tables;
 use steps::{Replay, write_on};
 use tables::Table;
-use verdicts::Verdict;
-
-// 1 to 4, or 0 and the length of the schedule that was written.
-#[derive(Clone, Copy)]
-pub struct Written {
-    pub verdict: Verdict,
-    pub length: usize,
-}
+use verdicts::Refusal;
 
 // The schedule in which the commands of a list go first, into the room, and its length: refusals 1 to 4 come first. No schedule has more than M steps.
-fn write_first(commands: &[u32], lengths: &[u32], early: &[bool], room: &mut [u32]) -> Written
+fn write_first(
+    commands: &[u32],
+    lengths: &[u32],
+    early: &[bool],
+    room: &mut [u32],
+) -> Result<usize, Refusal>
     ensures { WritesBy
         (first_schedule early.now commands.now lengths.now)
         commands.now lengths.now room.old room.new result }
 {
-    let verdict = check_tables(commands, lengths);
-    if verdict.told().number != 0 {
-        return Written { verdict, length: 0 };
-    }
+    check_tables(commands, lengths)?;
     let m = commands.len() / 3;
-    let short = short_room(&[[2, m, room.len()]]);
-    if short.told().number != 0 {
-        return Written {
-            verdict: short,
-            length: 0,
-        };
-    }
+    short_room(&[Room {
+        digit: 2,
+        needed: m,
+        given: room.len(),
+    }])?;
     let length = write_on(Replay::start(), commands, lengths, early, &mut room[..m]);
-    Written {
-        verdict: Verdict::Clean,
-        length,
-    }
+    Ok(length)
 }
 
 // No command goes first: always the lowest allowed thread steps.
-pub fn write_schedule(commands: &[u32], lengths: &[u32], room: &mut [u32]) -> Written
+pub fn write_schedule(commands: &[u32], lengths: &[u32], room: &mut [u32]) -> Result<usize, Refusal>
     ensures { WritesSchedule commands.now lengths.now room.old room.new result }
 {
     write_first(commands, lengths, &[], room)
@@ -55,10 +45,7 @@ pub fn write_schedule(commands: &[u32], lengths: &[u32], room: &mut [u32]) -> Wr
 fn few(m: usize) -> u32
     ensures { result ≡ min m most_rows }
 {
-    if m < Table::ROWS {
-        return m as u32;
-    }
-    Table::ROWS as u32
+    m.min(Table::ROWS) as u32
 }
 
 // d goes first, and each command that c does not reach in a table of m rows.
@@ -66,10 +53,8 @@ fn put_apart(relation: &[u32], m: u32, c: u32, d: usize, early: &mut [bool])
     requires { length early.old ≤ most_rows }
     ensures { PutsApart (related relation.now m) c d early.old early.new }
 {
-    let mut x = 0;
-    while x < early.len() {
-        early[x] = (x == d) | !related(relation, m, c, x as u32);
-        x += 1;
+    for (x, goes) in early.iter_mut().enumerate() {
+        *goes = (x == d) | !related(relation, m, c, x as u32);
     }
 }
 
@@ -81,7 +66,7 @@ pub fn write_apart(
     c: usize,
     d: usize,
     room: &mut [u32],
-) -> Written
+) -> Result<usize, Refusal>
     ensures { WritesApart commands.now lengths.now relation.now c d room.old room.new result }
 {
     let mut early = [false; Table::ROWS];

@@ -7,12 +7,11 @@ use Prim.Native.Nat.{ℕ, ◌≤◌}
 use native.Mathlib.Omega.{arith}
 use Rattle.tables.specs.Rows.{rows}
 use Rattle.rules.specs.Rules.{Keeps, are_bad_commands, checked}
-use Rattle.verdicts.specs.Verdicts.{tell, numbered}
+use Rattle.verdicts.specs.Verdicts.{tell, refused}
 use Rattle.verdicts.specs.declared.Told.{Told}
-use Rattle.verdicts.specs.declared.Verdict.{Verdict}
-use Rattle.rules.proofs.Rules.{passes_zero, checked_small, good_commands, whole_commands}
-use Rattle.rules.proofs.Checked.{passed, check_first, check_second}
-use Rattle.verdicts.proofs.FirstTold.{or_first, or_second, or_either, or_zero}
+use Rattle.verdicts.specs.declared.Refusal.{Refusal}
+use Rattle.rules.proofs.Rules.{passes, passes_zero, checked_small, good_commands, whole_commands}
+use Rattle.verdicts.proofs.FirstTold.{or_first, or_second, or_either, or_zero, or_refused, or_passed}
 use Rattle.relation.specs.Table.{words}
 use Rattle.rooms.specs.Short.{room_of, first_short}
 use Rattle.rooms.specs.Refusals.{review_rooms, review_refusal, size_refusal}
@@ -66,20 +65,19 @@ module _ (commands : List ℕ) (relation_length generation_length : ℕ) where
 
 -- ---- 1 to 4
 
--- the check of tables said v
-module _ (commands lengths : List ℕ) (v : Verdict) {told : Told} (check : numbered v ≡ checked commands lengths) (said : told ≡ numbered v)
-    (relation_length generation_length : ℕ) where
-  pub refuses_tables : told.number ≢ 0 → numbered v ≡ review_refusal commands lengths relation_length generation_length
+module _ (commands lengths : List ℕ) (relation_length generation_length : ℕ) where
+  -- the check of tables refused them
+  pub refuses_tables : (r : Refusal) → refused r ≡ checked commands lengths → refused r ≡ review_refusal commands lengths relation_length generation_length
   unfolding review_refusal
-  refuses_tables n = check_first commands lengths v check said _ n
+  refuses_tables r e = or_refused r e (shorts commands relation_length generation_length)
 
   -- of tables that pass only the rooms can be refused
-  pub refuses_rooms : told.number ≡ 0 → size_refusal commands relation_length generation_length ≡ review_refusal commands lengths relation_length generation_length
+  pub refuses_rooms : tell 0 0 0 ≡ checked commands lengths → size_refusal commands relation_length generation_length ≡ review_refusal commands lengths relation_length generation_length
   unfolding review_refusal
   refuses_rooms e =
-      let K = passed commands lengths v check said e in
+      let K = passes commands lengths (sym e) in
       sym (sizes_shorts commands relation_length generation_length (good_commands commands K.whole K.few_rows))
-      ∙ check_second commands lengths v check said (shorts commands relation_length generation_length) e
+      ∙ or_passed e (shorts commands relation_length generation_length)
 
 -- ---- tables and rooms that pass
 pub record Admitted (commands lengths : List ℕ) (relation_length generation_length : ℕ) : Type 0 where

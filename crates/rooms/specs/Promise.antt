@@ -1,21 +1,22 @@
 -- What each public function promises, of how many numbers there are in the relation room and in the generation room.
-use Rattle.std.specs.Prelude.{◌≡◌, Bool, List, ℕ, eqb}
-use Rattle.verdicts.specs.Verdicts.{numbered}
-use Rattle.verdicts.specs.declared.Verdict.{Verdict}
+use Rattle.std.specs.Prelude.{◌≡◌, Bool, List, ℕ, Result, eqb}
+use Rattle.verdicts.specs.Verdicts.{told_of}
+use Rattle.verdicts.specs.declared.Refusal.{Refusal}
+use Rattle.rooms.specs.declared.short.Room.{Room}
 use Rattle.rooms.specs.Short.{first_short}
 use Rattle.rooms.specs.Refusals.{review_refusal, size_refusal}
 
 -- `short_room`
-abbrev pub AnswersShortRoom : (rooms : List (List ℕ)) (r : Verdict) → Type 0
-AnswersShortRoom rooms r = numbered r ≡ first_short rooms
+abbrev pub AnswersShortRoom : (rooms : List Room) (r : Result (Unit {0}) Refusal) → Type 0
+AnswersShortRoom rooms r = told_of r ≡ first_short rooms
 
 -- `refuse_sizes`
-abbrev pub AnswersRefuseSizes : (commands : List ℕ) (wide high : ℕ) (r : Verdict) → Type 0
-AnswersRefuseSizes commands wide high r = numbered r ≡ size_refusal commands wide high
+abbrev pub AnswersRefuseSizes : (commands : List ℕ) (wide high : ℕ) (r : Result (Unit {0}) Refusal) → Type 0
+AnswersRefuseSizes commands wide high r = told_of r ≡ size_refusal commands wide high
 
 -- `refuse`
-abbrev pub AnswersRefuse : (commands lengths : List ℕ) (wide high : ℕ) (r : Verdict) → Type 0
-AnswersRefuse commands lengths wide high r = numbered r ≡ review_refusal commands lengths wide high
+abbrev pub AnswersRefuse : (commands lengths : List ℕ) (wide high : ℕ) (r : Result (Unit {0}) Refusal) → Type 0
+AnswersRefuse commands lengths wide high r = told_of r ≡ review_refusal commands lengths wide high
 
 -- `admits`
 abbrev pub AnswersAdmits : (commands lengths : List ℕ) (wide high : ℕ) (r : Bool) → Type 0

@@ -6,10 +6,11 @@ use Rattle.verdicts.specs.Verdicts.{tell}
 use Rattle.verdicts.specs.FirstTold.{or_else}
 use Rattle.verdicts.specs.declared.Told.{Told}
 use Rattle.relation.specs.Table.{words}
+use Rattle.rooms.specs.declared.short.Room.{Room}
 use Rattle.rooms.specs.Short.{room_of, first_short}
 
 -- the rooms of a review, the lowest digit first: 0 the relation room, and 1 the generation room (R39)
-abbrev pub review_rooms : (m relation_length generation_length : ℕ) → List (List ℕ)
+abbrev pub review_rooms : (m relation_length generation_length : ℕ) → List Room
 review_rooms m relation_length generation_length = room_of 0 (words m) relation_length ∷ room_of 1 m generation_length ∷ []
 
 -- 1 to 4, of tables and the lengths of the two rooms (R37, R39)

@@ -1,18 +1,24 @@
 // Rooms that are short.
 ghost use Rattle.rooms.specs.Promise.{AnswersShortRoom};
 
-use verdicts::Verdict;
+use verdicts::Refusal;
 
-// The first of the rooms that is short, or 0. A room is three numbers: its digit, the length that is needed, and the length that was given.
-pub fn short_room(rooms: &[[usize; 3]]) -> Verdict
+// A room by its digit, with the length that is needed and the length that was given.
+#[derive(Clone, Copy)]
+pub struct Room {
+    pub digit: usize,
+    pub needed: usize,
+    pub given: usize,
+}
+
+// The first of the rooms that is short.
+pub fn short_room(rooms: &[Room]) -> Result<(), Refusal>
     ensures { AnswersShortRoom rooms.now result }
 {
-    let mut i = 0;
-    while i < rooms.len() {
-        if rooms[i][2] < rooms[i][1] {
-            return Verdict::ShortRoom(rooms[i][0]);
+    for room in rooms {
+        if room.given < room.needed {
+            return Err(Refusal::ShortRoom(room.digit));
         }
-        i += 1;
     }
-    Verdict::Clean
+    Ok(())
 }

@@ -1,7 +1,7 @@
 -- What each public function promises.
-use Rattle.std.specs.Prelude.{◌≡◌, Bool, List, ℕ}
-use Rattle.verdicts.specs.Verdicts.{numbered}
-use Rattle.verdicts.specs.declared.Verdict.{Verdict}
+use Rattle.std.specs.Prelude.{◌≡◌, Bool, List, ℕ, Result}
+use Rattle.verdicts.specs.Verdicts.{told_of}
+use Rattle.verdicts.specs.declared.Refusal.{Refusal}
 use Rattle.rules.specs.Rules.{are_bad_commands, checked}
 
 -- `bad_commands`
@@ -9,5 +9,5 @@ abbrev pub AnswersBadCommands : (commands : List ℕ) (r : Bool) → Type 0
 AnswersBadCommands commands r = r ≡ are_bad_commands commands
 
 -- `check_tables`
-abbrev pub AnswersCheckTables : (commands lengths : List ℕ) (r : Verdict) → Type 0
-AnswersCheckTables commands lengths r = numbered r ≡ checked commands lengths
+abbrev pub AnswersCheckTables : (commands lengths : List ℕ) (r : Result (Unit {0}) Refusal) → Type 0
+AnswersCheckTables commands lengths r = told_of r ≡ checked commands lengths

@@ -2,11 +2,12 @@
 #![tactic(auto)]
 
 ghost use Rattle.std.specs.Prelude.{◌≡◌};
-ghost use Rattle.rules.specs.Rules.{does_row_keep, first_bad_of};
+ghost use Rattle.rules.specs.Rules.{does_row_keep};
+ghost use Rattle.rules.specs.Needs.{first_broken};
 ghost use Rattle.rules.specs.Promise.{AnswersBadCommands, AnswersCheckTables};
 
 use tables::{Table, first_row};
-use verdicts::Verdict;
+use verdicts::Refusal;
 
 // Does a row keep the rules, in a table of so many threads?
 fn keeps_rules(threads: usize, kind: u32, name: u32, count: u32) -> bool
@@ -24,20 +25,12 @@ fn keeps_rules(threads: usize, kind: u32, name: u32, count: u32) -> bool
         & (counted <= threads)
 }
 
-// The first row that breaks them, or the number of rows.
-fn first_bad(commands: &[u32], threads: usize) -> usize
-    ensures { result ≡ first_bad_of commands.now threads }
+// The first row that breaks them.
+fn first_bad(commands: &[u32], threads: usize) -> Option<usize>
+    ensures { result ≡ first_broken commands.now threads }
 {
-    let m = commands.len() / 3;
-    let mut c = 0;
-    while c < m {
-        let at = c * 3;
-        if !keeps_rules(threads, commands[at], commands[at + 1], commands[at + 2]) {
-            return c;
-        }
-        c += 1;
-    }
-    c
+    let (rows, _) = commands.as_chunks::<3>();
+    rows.iter().position(|row| !keeps_rules(threads, row[0], row[1], row[2]))
 }
 
 // Are the command numbers no multiple of 3, or the rows too many? No row is looked at.
@@ -51,27 +44,26 @@ pub fn bad_commands(commands: &[u32]) -> bool
     Table::ROWS < numbers / 3
 }
 
-// The number of refusal 1, 2 or 3 with its place, in the order tested, or 0 where the tables pass.
-pub fn check_tables(commands: &[u32], lengths: &[u32]) -> Verdict
+// Refusals 1, 2 and 3, in the order tested.
+pub fn check_tables(commands: &[u32], lengths: &[u32]) -> Result<(), Refusal>
     ensures { AnswersCheckTables commands.now lengths.now result }
 {
     if bad_commands(commands) {
-        return Verdict::BadCommands;
+        return Err(Refusal::BadCommands);
     }
     let m = commands.len() / 3;
     let threads = lengths.len();
     if threads == 0 {
-        return Verdict::BadLengths;
+        return Err(Refusal::BadLengths);
     }
     if Table::THREADS < threads {
-        return Verdict::BadLengths;
+        return Err(Refusal::BadLengths);
     }
     if first_row(lengths, threads) != m {
-        return Verdict::BadLengths;
+        return Err(Refusal::BadLengths);
     }
-    let bad = first_bad(commands, threads);
-    if bad < m {
-        return Verdict::BadRow(bad);
+    if let Some(row) = first_bad(commands, threads) {
+        return Err(Refusal::BadRow(row));
     }
-    Verdict::Clean
+    Ok(())
 }

@@ -1,12 +1,14 @@
 -- Verdicts in the order tested: the first that is not 0 is told. Assumes nothing.
-use mathlib.Core.Path.{◌≡◌, sym, ap, ◌∙◌, subst}
+use mathlib.Core.Path.{◌≡◌, refl, sym, ap, ◌∙◌, subst}
 use mathlib.Core.Logic.{by_cases, ◌≢◌}
 use native.Mathlib.Decide.{ℕ_discrete}
 use borrow.Author.Tests.{eq-eqb, ne_eqb}
 use Rattle.verdicts.specs.declared.Told.{Told}
 use Rattle.verdicts.specs.declared.Verdict.{Verdict}
-use Rattle.verdicts.specs.Verdicts.{numbered}
+use Rattle.verdicts.specs.declared.Refusal.{Refusal}
+use Rattle.verdicts.specs.Verdicts.{tell, refused, numbered}
 use Rattle.verdicts.specs.FirstTold.{or_else}
+use Rattle.verdicts.proofs.Verdicts.{refused_some}
 
 pub or_first : (a b : Told) → a.number ≢ 0 → a ≡ or_else a b
 or_first a b n = rw (ne_eqb a.number 0 n)
@@ -31,6 +33,13 @@ pub or_assoc : (a b c : Told) → or_else (or_else a b) c ≡ or_else a (or_else
 or_assoc a b c =
     by_cases (ℕ_discrete a.number 0) (λ (z : a.number ≡ 0). rw (eq-eqb a.number 0 z))
     (λ (n : a.number ≢ 0). rw (ne_eqb a.number 0 n) (rw (ne_eqb a.number 0 n)))
+
+-- what is refused is told first, and what passes leaves it to the second
+pub or_refused : (r : Refusal) {a : Told} → refused r ≡ a → (b : Told) → refused r ≡ or_else a b
+or_refused r e b = rw (← e) (or_first (refused r) b (refused_some r))
+
+pub or_passed : {a : Told} → tell 0 0 0 ≡ a → (b : Told) → b ≡ or_else a b
+or_passed e b = rw (← e) refl
 
 -- a verdict v of which `told` was said
 module _ (v : Verdict) {told : Told} (said : told ≡ numbered v) where

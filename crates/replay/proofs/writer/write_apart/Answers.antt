@@ -12,4 +12,4 @@ put_apart-requires c = omega arith
 pub returns : goal.returns
 unfolding most_rows
 returns c =
-    wrote_apart _ _ _ c.few-m.ensures c.few.ensures refl c.put_apart.ensures c.write_first.ensures
+    wrote_apart _ _ _ _ c.few-m.ensures c.few.ensures refl c.put_apart.ensures c.write_first.ensures

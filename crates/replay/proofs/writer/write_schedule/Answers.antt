@@ -3,4 +3,4 @@ use Rattle.replay.proofs.Wrote.{wrote_lowest}
 use Rattle.replay.proofs.writer.write_schedule.Goals as goal
 
 pub returns : goal.returns
-returns c = wrote_lowest c.write_first.ensures
+returns c = wrote_lowest _ c.write_first.ensures

@@ -1,15 +1,13 @@
-use borrow.Author.Rules.{rules}
-use Rattle.rooms.proofs.Rooms.{gone_none, gone_more, gone_short, gone_all}
+-- `short_room` meets its contract: none of the rooms before the one that the loop has come to is short. Assumes nothing.
+use native.Mathlib.Omega.{arith}
+use Rattle.rooms.proofs.Rooms.{gone_all, gone_short, gone_more}
 use Rattle.rooms.proofs.short.short_room.Goals as goal
 
-pub loop-i-init : goal.loop-i-init
-loop-i-init c = gone_none _
+pub returns-then-room : goal.returns-then-room
+returns-then-room c = gone_short _ _ c.loop-room.invariant c.loop-room-test.true c.if-room.true
 
-pub returns-then-rooms-i : goal.returns-then-rooms-i
-returns-then-rooms-i c = gone_short c.loop-i.invariant (search rules) c.if-rooms-i.true
-
-pub loop-i-preserved : goal.loop-i-preserved
-loop-i-preserved c = gone_more c.loop-i.invariant (search rules) c.if-rooms-i.false
+pub loop-room-preserved : goal.loop-room-preserved
+loop-room-preserved c = gone_more _ _ c.loop-room.invariant c.loop-room-test.true c.if-room.false
 
 pub returns : goal.returns
-returns c = gone_all c.loop-i.invariant c.loop-i-test.false
+returns c = gone_all c.args.rooms.now c.loop-room.room-index c.loop-room.invariant (omega arith)

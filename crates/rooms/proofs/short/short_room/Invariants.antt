@@ -1,11 +1,7 @@
--- `short_room` meets its contract: none of the rooms before the one that the loop has come to is short. Assumes nothing.
-use Prim.Native.Nat.{◌-◌}
-use lib.ListN.{length}
-use Rattle.rooms.proofs.Rooms.{Gone}
+use mathlib.Core.Path.{◌≡◌}
+use lib.ListN.{drop}
+use Rattle.rooms.specs.Short.{first_short}
 use Rattle.rooms.proofs.short.short_room.Given as goal
 
-abbrev pub invariant-loop-i : goal.invariant-loop-i
-invariant-loop-i l = Gone l.rooms l.i
-
-abbrev pub decreases-loop-i : goal.decreases-loop-i
-decreases-loop-i l = length l.rooms - l.i
+abbrev pub invariant-loop-room : goal.invariant-loop-room
+invariant-loop-room l = first_short (drop l.room-index l.rooms) ≡ first_short l.rooms
