@@ -11,18 +11,18 @@ use lib.ListN.{length, get_or-eq_default}
 use borrow.Author.Tests.{leb-false, eqb-true, eqb-false, not-false, ne_eqb}
 use Rattle.relation.proofs.Truth.{clashing, both, either, neither}
 use Rattle.tables.proofs.Lowest.{lowest_miss}
-use Rattle.kernels.specs.Rows.{statements, kind_of, x_of, y_of, z_of, if_kind, while_kind, break_kind, call_kind, expressions}
+use Rattle.kernels.specs.Rows.{statements, list_of, kind_of, x_of, y_of, z_of, if_kind, while_kind, break_kind, call_kind, expressions}
 use Rattle.kernels.specs.Refusals.{has_body, uses, uses_besides, has_owner, missing, is_used_elsewhere, inside_itself, in_while, is_bad_body, is_bad_if, is_bad_while, is_bad_call, is_bad_statement, is_stray_break}
 use Rattle.kernels.proofs.Passed.{Passed}
 
 -- ---- a good statement, by its kind
 
 module _ (s : List ℕ) (count i : ℕ) (g : is_bad_statement s count i ≡ false) where
-  good_if_tests : kind_of s i ≡ if_kind → is_bad_if s count i (x_of s i) (y_of s i) (z_of s i) ≡ false
+  good_if_tests : kind_of s i ≡ if_kind → is_bad_if s count i (list_of s i) (x_of s i) (y_of s i) (z_of s i) ≡ false
   unfolding is_bad_statement
   good_if_tests k = rw k at g
 
-  good_while_tests : kind_of s i ≡ while_kind → is_bad_while s count i (x_of s i) (y_of s i) ≡ false
+  good_while_tests : kind_of s i ≡ while_kind → is_bad_while s count i (list_of s i) (x_of s i) (y_of s i) ≡ false
   unfolding is_bad_statement
   good_while_tests k = rw k at g
 
@@ -30,8 +30,8 @@ module _ (s : List ℕ) (count i : ℕ) (g : is_bad_statement s count i ≡ fals
   unfolding is_bad_statement
   good_call_tests k = rw k at g
 
-  while_facts : is_bad_while s count i (x_of s i) (y_of s i) ≡ false → (x_of s i < count) × (is_bad_body s i (y_of s i) ≡ false) × (inside_itself s i ≡ false)
-  unfolding is_bad_while
+  while_facts : is_bad_while s count i (list_of s i) (x_of s i) (y_of s i) ≡ false → (x_of s i < count) × (is_bad_body s i (y_of s i) ≡ false) × (inside_itself s i ≡ false)
+  unfolding is_bad_while inside_itself
   while_facts f =
       let (t₂, inside) = neither _ (inside_itself s i) f in
       let (x, y) = neither (leb count (x_of s i)) (is_bad_body s i (y_of s i)) t₂ in
@@ -45,7 +45,7 @@ module _ (s : List ℕ) (count i : ℕ) (g : is_bad_statement s count i ≡ fals
   unfolding is_bad_if
   good_if k =
       let (t₂, z) = neither _ (is_bad_body s i (z_of s i)) (good_if_tests k) in
-      let (t, apart) = neither (is_bad_while s count i (x_of s i) (y_of s i)) (eqb (y_of s i) (z_of s i)) t₂ in
+      let (t, apart) = neither (is_bad_while s count i (list_of s i) (x_of s i) (y_of s i)) (eqb (y_of s i) (z_of s i)) t₂ in
       let (x, y, inside) = while_facts t in
       (x, eqb-false _ _ apart, y, z, inside)
 
@@ -89,7 +89,7 @@ unfolding uses_besides uses
 besides s i b j n h = rw (ne_eqb j i n, h)
 
 in_while_lem : (s : List ℕ) (i : ℕ) → kind_of s i ≡ break_kind → is_stray_break s i ≡ false → in_while s i ≡ true
-unfolding is_stray_break
+unfolding is_stray_break in_while
 in_while_lem s i k g = not-false _ (rw k at g)
 
 module _ {s e : List ℕ} {lanes : ℕ} (P : Passed s e lanes) where

@@ -1,5 +1,5 @@
 -- What tables have that are not refused. Assumes nothing.
-use mathlib.Core.Path.{◌≡◌, refl, ap}
+use mathlib.Core.Path.{◌≡◌, refl}
 use mathlib.Core.Logic.{⊎_elim, by_cases}
 use mathlib.Core.Bool.{Bool, true, false, not, cond, ◌||◌}
 use mathlib.Core.List.{List}
@@ -11,10 +11,12 @@ use lib.ListN.{length}
 use borrow.Author.Tests.{ltb-true, ltb-false, eqb-true, eqb-false, not-false, le-ltb, eq-eqb, ne_eqb}
 use Rattle.relation.proofs.Truth.{split, isnt, neither}
 use Rattle.tables.proofs.Lowest.{lowest_miss}
-use Rattle.kernels.specs.declared.kernel.Ruling.{Ruling}
+use Rattle.std.specs.Prelude.{Result, Ok, Err}
+use Rattle.kernels.specs.declared.kernel.Refusal.{Refusal}
+use Rattle.kernels.specs.declared.kernel.Refusal.TheVariants.{Malformed, StrayBreak}
 use Rattle.kernels.specs.Limits.{most_statements, most_expressions, most_lanes}
 use Rattle.kernels.specs.Rows.{statements, expressions}
-use Rattle.kernels.specs.Refusals.{is_bad_statement, first_bad_statement_of, bad_expression, has_bad_expression, is_stray_break, first_stray_break_of, is_bad_length, are_bad_tables, rule, ruling_of}
+use Rattle.kernels.specs.Refusals.{is_bad_statement, first_bad_statement_of, bad_expression, has_bad_expression, is_stray_break, first_stray_break_of, is_bad_length, are_bad_tables, refusal_place, ruling_of}
 use Rattle.kernels.proofs.Finds.{some_none}
 use Rattle.kernels.proofs.Answers.{refuses_tables, refuses_statement, refuses_break, refuses_none}
 
@@ -32,9 +34,9 @@ pub record Passed (s e : List ℕ) (lanes : ℕ) : Type 0 where
 
 -- ---- the answer
 
--- a refusal has a number
-never : {A : Type 0} (r : Ruling) {n p : ℕ} → r ≡ rule n p → 1 ≤ n → r.number ≡ 0 → A
-never r {n} e l z = let q : r.number ≡ n = ap (λ (t : Ruling). t.number) e in absurd (omega arith)
+-- a refusal is no pass
+never : {A : Type 0} {r : Result (Unit {0}) Refusal} {f : Refusal} → r ≡ Err f → r ≡ Ok tt → A
+never e z = absurd (let q : ◌≡◌ {A = ℕ} 0 1 = cc in omega arith)
 
 good_length : (row most numbers : ℕ) → is_bad_length row most numbers ≡ false → (numbers % row ≡ 0) × (numbers / row ≤ most)
 unfolding is_bad_length
@@ -43,22 +45,22 @@ good_length row most numbers g =
     (eqb-true _ _ (not-false _ whole), ltb-false _ _ few)
 
 module _ (s e : List ℕ) (lanes : ℕ) where
-  tables_pass : (ruling_of s e lanes).number ≡ 0 → are_bad_tables s e lanes ≡ false
-  tables_pass z = isnt _ (λ t. never _ (refuses_tables s e lanes t) (omega arith) z)
+  tables_pass : ruling_of s e lanes ≡ Ok tt → are_bad_tables s e lanes ≡ false
+  tables_pass z = isnt _ (λ t. never (refuses_tables s e lanes t) z)
 
-  statements_pass : (ruling_of s e lanes).number ≡ 0 → statements s ≤ first_bad_statement_of s (expressions e)
+  statements_pass : ruling_of s e lanes ≡ Ok tt → statements s ≤ first_bad_statement_of s (expressions e)
   statements_pass z =
       by_cases (dec_lt (first_bad_statement_of s (expressions e)) (statements s))
-      (λ (l : first_bad_statement_of s (expressions e) < statements s). never _ (refuses_statement s e lanes (tables_pass z) l) (omega arith) z)
+      (λ (l : first_bad_statement_of s (expressions e) < statements s). never (refuses_statement s e lanes (tables_pass z) l) z)
       (λ (l : ¬ (first_bad_statement_of s (expressions e) < statements s)). omega arith)
 
-  breaks_pass : (ruling_of s e lanes).number ≡ 0 → statements s ≤ first_stray_break_of s
+  breaks_pass : ruling_of s e lanes ≡ Ok tt → statements s ≤ first_stray_break_of s
   breaks_pass z =
       by_cases (dec_lt (first_stray_break_of s) (statements s))
-      (λ (l : first_stray_break_of s < statements s). never _ (refuses_break s e lanes (tables_pass z) (statements_pass z) l) (omega arith) z)
+      (λ (l : first_stray_break_of s < statements s). never (refuses_break s e lanes (tables_pass z) (statements_pass z) l) z)
       (λ (l : ¬ (first_stray_break_of s < statements s)). omega arith)
 
-  pub passed : (ruling_of s e lanes).number ≡ 0 → Passed s e lanes
+  pub passed : ruling_of s e lanes ≡ Ok tt → Passed s e lanes
   unfolding are_bad_tables
   passed z =
       let (t₄, each) = neither _ (has_bad_expression e) (tables_pass z) in
@@ -87,20 +89,35 @@ module _ (s e : List ℕ) (lanes : ℕ) where
       let (t₂, ts) = neither (eqb lanes 0 || ltb most_lanes lanes) (is_bad_length 5 most_statements (length s)) t₃ in
       (good_length 5 most_statements (length s) ts).1
 
-  at_row : (b : Bool) (x y : Ruling) → (b ≡ true → x.place ≤ most_statements) → y.place ≤ most_statements → (cond b x y).place ≤ most_statements
+  -- a refusal's place is a row of the table, or 0
+  InTable : Result (Unit {0}) Refusal → Type 0
+  InTable r = (f : Refusal) → r ≡ Err f → refusal_place f ≤ most_statements
+
+  at_row : (b : Bool) (x y : Result (Unit {0}) Refusal) → (b ≡ true → InTable x) → InTable y → InTable (cond b x y)
   at_row true x y p q = p refl
   at_row false x y p q = q
 
-  -- a refusal's place is a row of the table, or 0
-  pub ruling_place : (ruling_of s e lanes).place ≤ most_statements
+  at_place : (g : Refusal) → refusal_place g ≤ most_statements → InTable (Err g)
+  unfolding InTable
+  at_place g l f e = let q : g ≡ f = cc in rw (← q) l
+
+  at_none : InTable (Ok tt)
+  unfolding InTable
+  at_none f e = never {r = Ok tt} e refl
+
+  in_table : InTable (ruling_of s e lanes)
   unfolding ruling_of
-  ruling_place =
-      ⊎_elim (λ (t : are_bad_tables s e lanes ≡ true). rw t (omega arith))
+  in_table =
+      ⊎_elim (λ (t : are_bad_tables s e lanes ≡ true). rw t (at_place _ (omega arith)))
       (λ (t : are_bad_tables s e lanes ≡ false).
       rw t
-      (at_row (ltb (first_bad_statement_of s (expressions e)) (statements s)) (rule 17 (first_bad_statement_of s (expressions e))) _ (λ b. omega (arith, few_rows t, ltb-true (first_bad_statement_of s (expressions e)) (statements s) b))
-      (at_row (ltb (first_stray_break_of s) (statements s)) (rule 18 (first_stray_break_of s)) (rule 0 0) (λ b. omega (arith, few_rows t, ltb-true (first_stray_break_of s) (statements s) b)) (omega arith))))
+      (at_row (ltb (first_bad_statement_of s (expressions e)) (statements s)) (Err (Malformed (first_bad_statement_of s (expressions e)))) _ (λ b. at_place _ (omega (arith, few_rows t, ltb-true (first_bad_statement_of s (expressions e)) (statements s) b)))
+      (at_row (ltb (first_stray_break_of s) (statements s)) (Err (StrayBreak (first_stray_break_of s))) (Ok tt) (λ b. at_place _ (omega (arith, few_rows t, ltb-true (first_stray_break_of s) (statements s) b))) at_none)))
       (split (are_bad_tables s e lanes))
+
+  pub ruling_place : (f : Refusal) → ruling_of s e lanes ≡ Err f → refusal_place f ≤ most_statements
+  unfolding InTable
+  ruling_place = in_table
 
   no_bad_tables : Passed s e lanes → are_bad_tables s e lanes ≡ false
   unfolding are_bad_tables is_bad_length
@@ -116,7 +133,7 @@ module _ (s e : List ℕ) (lanes : ℕ) where
       )
 
   -- and such tables are not refused
-  pub passes : Passed s e lanes → ruling_of s e lanes ≡ rule 0 0
+  pub passes : Passed s e lanes → ruling_of s e lanes ≡ Ok tt
   passes P =
       refuses_none s e lanes (no_bad_tables P) (ltb-false _ _ (some_none (is_bad_statement s (expressions e)) (statements s) P.each_statement))
       (ltb-false _ _ (some_none (is_stray_break s) (statements s) P.each_break))

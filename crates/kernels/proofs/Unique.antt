@@ -1,9 +1,24 @@
--- Two answers that meet the contract of the public function for the same inputs are equal. Assumes nothing.
+-- Two answers that meet the contract of a public function for the same inputs are equal. Assumes nothing.
 use mathlib.Core.Path.{◌≡◌, sym, ◌∙◌}
 use mathlib.Core.List.{List}
 use Prim.Native.Nat.{ℕ}
-use Rattle.kernels.specs.declared.kernel.Ruling.{Ruling}
-use Rattle.kernels.specs.Promise.{AnswersRuling}
+use Rattle.std.specs.Prelude.{Option, Result}
+use Rattle.kernels.specs.declared.kernel.StatementKind.{StatementKind}
+use Rattle.kernels.specs.declared.kernel.ExpressionKind.{ExpressionKind}
+use Rattle.kernels.specs.declared.kernel.Refusal.{Refusal}
+use Rattle.kernels.specs.Promise.{AnswersStatementKind, AnswersExpressionKind, AnswersRefusalNumber, AnswersRefusalPlace, AnswersRuling}
 
-pub ruling_one : (s e : List ℕ) (lanes : ℕ) {r q : Ruling} → AnswersRuling s e lanes r → AnswersRuling s e lanes q → r ≡ q
+pub statement_kind_one : (number : ℕ) {r q : Option StatementKind} → AnswersStatementKind number r → AnswersStatementKind number q → r ≡ q
+statement_kind_one number f g = f ∙ sym g
+
+pub expression_kind_one : (number : ℕ) {r q : Option ExpressionKind} → AnswersExpressionKind number r → AnswersExpressionKind number q → r ≡ q
+expression_kind_one number f g = f ∙ sym g
+
+pub refusal_number_one : (refusal : Refusal) {r q : ℕ} → AnswersRefusalNumber refusal r → AnswersRefusalNumber refusal q → r ≡ q
+refusal_number_one refusal f g = f ∙ sym g
+
+pub refusal_place_one : (refusal : Refusal) {r q : ℕ} → AnswersRefusalPlace refusal r → AnswersRefusalPlace refusal q → r ≡ q
+refusal_place_one refusal f g = f ∙ sym g
+
+pub ruling_one : (s e : List ℕ) (lanes : ℕ) {r q : Result (Unit {0}) Refusal} → AnswersRuling s e lanes r → AnswersRuling s e lanes q → r ≡ q
 ruling_one s e lanes f g = f ∙ sym g

@@ -1,9 +1,14 @@
 -- Which tables are refused: 17 and then 18, in the order tested, with the place. Numbers that a kind does not use are not looked at (R66, R70, R71).
-use Rattle.std.specs.Prelude.{Bool, false, cond, not, ◌&&◌, ◌||◌, List, ℕ, zero, suc, ◌/◌, ◌%◌, eqb, leb, ltb, length}
+use Rattle.std.specs.Prelude.{Bool, false, cond, not, ◌&&◌, ◌||◌, List, ℕ, zero, suc, ◌/◌, ◌%◌, eqb, leb, ltb, length, Option, Some, None, Result, Ok, Err}
 use Rattle.tables.specs.Lowest.{lowest}
-use Rattle.kernels.specs.declared.kernel.Ruling.{Ruling}
+use Rattle.kernels.specs.declared.kernel.Refusal.{Refusal}
+use Rattle.kernels.specs.declared.kernel.Refusal.TheVariants.{Malformed, StrayBreak}
 use Rattle.kernels.specs.Limits.{most_statements, most_expressions, most_lanes, cell_count}
 use Rattle.kernels.specs.Rows.{statements, list_of, kind_of, x_of, y_of, z_of, assign_kind, if_kind, while_kind, break_kind, call_kind, return_kind, expressions, expr_kind, expr_x, expr_y, cell_expr, sum_expr, less_expr}
+
+-- the lowest number below n that passes a test, if there is one
+unfoldable pub found : (ℕ → Bool) → (n : ℕ) → Option ℕ
+found p n = cond (ltb (lowest p n) n) (Some (lowest p n)) None
 
 -- ---- lists and the rows that have them
 
@@ -11,9 +16,13 @@ use Rattle.kernels.specs.Rows.{statements, list_of, kind_of, x_of, y_of, z_of, a
 unfoldable pub lies_in : List ℕ → (b i : ℕ) → Bool
 lies_in s b i = eqb (list_of s i) b
 
+-- a statement has list b for an arm or a body, by its kind, y and z
+abbrev pub has_list : (kind y z b : ℕ) → Bool
+has_list kind y z b = (eqb kind if_kind && (eqb y b || eqb z b)) || (eqb kind while_kind && eqb y b)
+
 -- row i has list b for an arm or a body
 unfoldable pub has_body : List ℕ → (b i : ℕ) → Bool
-has_body s b i = (eqb (kind_of s i) if_kind && (eqb (y_of s i) b || eqb (z_of s i) b)) || (eqb (kind_of s i) while_kind && eqb (y_of s i) b)
+has_body s b i = has_list (kind_of s i) (y_of s i) (z_of s i) b
 
 -- row i has it for one, or calls it
 unfoldable pub uses : List ℕ → (b i : ℕ) → Bool
@@ -46,17 +55,25 @@ unfoldable pub meets_upwards : List ℕ → (p : ℕ → Bool) → (n b : ℕ) �
 meets_upwards s p zero b = false
 meets_upwards s p (suc n) b = has_owner s b && (p (owner s b) || meets_upwards s p n (list_of s (owner s b)))
 
+-- list b lies inside an arm or a body of row i
+abbrev pub list_inside : List ℕ → (i b : ℕ) → Bool
+list_inside s i b = meets_upwards s (eqb i) (statements s) b
+
 -- row i lies inside its own arm or body (R70)
 unfoldable pub inside_itself : List ℕ → (i : ℕ) → Bool
-inside_itself s i = meets_upwards s (eqb i) (statements s) (list_of s i)
+inside_itself s i = list_inside s i (list_of s i)
 
 -- row j is a while
 unfoldable pub is_while : List ℕ → (j : ℕ) → Bool
 is_while s j = eqb (kind_of s j) while_kind
 
--- row i lies in a loop of its own function: a call is no way upwards (R71)
+-- list b lies in a loop of its own function: a call is no way upwards (R71)
+abbrev pub list_in_while : List ℕ → (b : ℕ) → Bool
+list_in_while s b = meets_upwards s (is_while s) (statements s) b
+
+-- row i does (R71)
 unfoldable pub in_while : List ℕ → (i : ℕ) → Bool
-in_while s i = meets_upwards s (is_while s) (statements s) (list_of s i)
+in_while s i = list_in_while s (list_of s i)
 
 -- ---- 17, of a statement in a kernel of so many expressions
 
@@ -68,25 +85,28 @@ is_bad_body s i b = eqb b 0 || missing s b || is_used_elsewhere s i b
 unfoldable pub is_bad_assignment : (count x y : ℕ) → Bool
 is_bad_assignment count x y = leb cell_count x || leb count y
 
--- no expression x, a body y that cannot be one, or the row inside itself (R70)
-unfoldable pub is_bad_while : List ℕ → (count i x y : ℕ) → Bool
-is_bad_while s count i x y = leb count x || is_bad_body s i y || inside_itself s i
+-- of row i in list b: no expression x, a body y that cannot be one, or the row inside itself (R70)
+unfoldable pub is_bad_while : List ℕ → (count i b x y : ℕ) → Bool
+is_bad_while s count i b x y = leb count x || is_bad_body s i y || list_inside s i b
 
 -- the same of an if and its first arm, or both arms one list, or a second arm z that cannot be one (R70)
-unfoldable pub is_bad_if : List ℕ → (count i x y z : ℕ) → Bool
-is_bad_if s count i x y z = is_bad_while s count i x y || eqb y z || is_bad_body s i z
+unfoldable pub is_bad_if : List ℕ → (count i b x y z : ℕ) → Bool
+is_bad_if s count i b x y z = is_bad_while s count i b x y || eqb y z || is_bad_body s i z
 
 -- a function that is missing, or is some row's arm or body; the kernel may be called (R70)
 unfoldable pub is_bad_call : List ℕ → (x : ℕ) → Bool
 is_bad_call s x = missing s x || has_owner s x
 
--- row i by its kind: a skip, a break and a return are never bad, and past the return no kind is known (R70)
+-- row i in list b by its kind: a skip, a break and a return are never bad, and past the return no kind is known (R70)
+abbrev pub is_bad_by : List ℕ → (count i b kind x y z : ℕ) → Bool
+is_bad_by s count i b kind x y z =
+    cond (eqb kind assign_kind) (is_bad_assignment count x y)
+    (cond (eqb kind if_kind) (is_bad_if s count i b x y z)
+    (cond (eqb kind while_kind) (is_bad_while s count i b x y) (cond (eqb kind call_kind) (is_bad_call s x) (ltb return_kind kind))))
+
+-- row i is bad (R70)
 unfoldable pub is_bad_statement : List ℕ → (count i : ℕ) → Bool
-is_bad_statement s count i =
-    cond (eqb (kind_of s i) assign_kind) (is_bad_assignment count (x_of s i) (y_of s i))
-    (cond (eqb (kind_of s i) if_kind) (is_bad_if s count i (x_of s i) (y_of s i) (z_of s i))
-    (cond (eqb (kind_of s i) while_kind) (is_bad_while s count i (x_of s i) (y_of s i))
-    (cond (eqb (kind_of s i) call_kind) (is_bad_call s (x_of s i)) (ltb return_kind (kind_of s i)))))
+is_bad_statement s count i = is_bad_by s count i (list_of s i) (kind_of s i) (x_of s i) (y_of s i) (z_of s i)
 
 -- the first bad statement, or the number of statements (R70)
 abbrev pub first_bad_statement_of : List ℕ → (count : ℕ) → ℕ
@@ -108,9 +128,13 @@ has_bad_expression e = ltb (lowest (bad_expression e) (expressions e)) (expressi
 
 -- ---- 18
 
--- row i is a break outside the loops of its own function (R71)
+-- a row in list b is a break outside the loops of its own function (R71)
+abbrev pub is_stray_by : List ℕ → (b kind : ℕ) → Bool
+is_stray_by s b kind = eqb kind break_kind && not (list_in_while s b)
+
+-- row i is one (R71)
 unfoldable pub is_stray_break : List ℕ → (i : ℕ) → Bool
-is_stray_break s i = eqb (kind_of s i) break_kind && not (in_while s i)
+is_stray_break s i = is_stray_by s (list_of s i) (kind_of s i)
 
 -- the first such break, or the number of statements (R71)
 abbrev pub first_stray_break_of : List ℕ → ℕ
@@ -127,13 +151,19 @@ unfoldable pub are_bad_tables : (s e : List ℕ) (lanes : ℕ) → Bool
 are_bad_tables s e lanes =
     eqb lanes 0 || ltb most_lanes lanes || is_bad_length 5 most_statements (length s) || is_bad_length 3 most_expressions (length e) || has_bad_expression e
 
--- a refusal by its number, with its place
-abbrev pub rule : (number place : ℕ) → Ruling
-rule n p = record { number = n; place = p }
+-- the number of a refusal
+abbrev pub refusal_number : Refusal → ℕ
+refusal_number (Malformed place) = 17
+refusal_number (StrayBreak place) = 18
 
--- 17 at place 0; 17 at the first bad statement (R70); 18 at the first stray break (R71); 0
-unfoldable pub ruling_of : (s e : List ℕ) (lanes : ℕ) → Ruling
+-- and its place
+abbrev pub refusal_place : Refusal → ℕ
+refusal_place (Malformed place) = place
+refusal_place (StrayBreak place) = place
+
+-- 17 at place 0; 17 at the first bad statement (R70); 18 at the first stray break (R71); or none
+unfoldable pub ruling_of : (s e : List ℕ) (lanes : ℕ) → Result (Unit {0}) Refusal
 ruling_of s e lanes =
-    cond (are_bad_tables s e lanes) (rule 17 0)
-    (cond (ltb (first_bad_statement_of s (expressions e)) (statements s)) (rule 17 (first_bad_statement_of s (expressions e)))
-    (cond (ltb (first_stray_break_of s) (statements s)) (rule 18 (first_stray_break_of s)) (rule 0 0)))
+    cond (are_bad_tables s e lanes) (Err (Malformed 0))
+    (cond (ltb (first_bad_statement_of s (expressions e)) (statements s)) (Err (Malformed (first_bad_statement_of s (expressions e))))
+    (cond (ltb (first_stray_break_of s) (statements s)) (Err (StrayBreak (first_stray_break_of s))) (Ok tt)))

@@ -1,5 +1,9 @@
 -- The two tables of a kernel: statements, five numbers a row, and expressions, three numbers a row (R66, R67).
-use Rattle.std.specs.Prelude.{List, ℕ, ◌+◌, ◌*◌, ◌/◌, length, get_or}
+use Rattle.std.specs.Prelude.{cond, List, ℕ, ◌+◌, ◌*◌, ◌/◌, eqb, length, get_or, Option, Some, None}
+use Rattle.kernels.specs.declared.kernel.StatementKind.{StatementKind}
+use Rattle.kernels.specs.declared.kernel.StatementKind.TheVariants.{Skip, Assign, If, While, Break, Call, Return}
+use Rattle.kernels.specs.declared.kernel.ExpressionKind.{ExpressionKind}
+use Rattle.kernels.specs.declared.kernel.ExpressionKind.TheVariants.{Number, Cell, Lane, Sum, Difference, Less}
 
 -- how many statements there are
 abbrev pub statements : List ℕ → ℕ
@@ -49,6 +53,24 @@ call_kind = 5
 abbrev pub return_kind : ℕ
 return_kind = 6
 
+-- the kind that a number stands for (R66)
+unfoldable pub statement_kind : ℕ → Option StatementKind
+statement_kind n =
+    cond (eqb n skip_kind) (Some Skip)
+    (cond (eqb n assign_kind) (Some Assign)
+    (cond (eqb n if_kind) (Some If)
+    (cond (eqb n while_kind) (Some While) (cond (eqb n break_kind) (Some Break) (cond (eqb n call_kind) (Some Call) (cond (eqb n return_kind) (Some Return) None))))))
+
+-- the number of a kind (R66)
+abbrev pub number_of : StatementKind → ℕ
+number_of Skip = skip_kind
+number_of Assign = assign_kind
+number_of If = if_kind
+number_of While = while_kind
+number_of Break = break_kind
+number_of Call = call_kind
+number_of Return = return_kind
+
 -- how many expressions there are
 abbrev pub expressions : List ℕ → ℕ
 expressions e = length e / 3
@@ -84,3 +106,19 @@ difference_expr = 4
 
 abbrev pub less_expr : ℕ
 less_expr = 5
+
+-- the kind that a number stands for (R67)
+unfoldable pub expression_kind : ℕ → Option ExpressionKind
+expression_kind n =
+    cond (eqb n number_expr) (Some Number)
+    (cond (eqb n cell_expr) (Some Cell)
+    (cond (eqb n lane_expr) (Some Lane) (cond (eqb n sum_expr) (Some Sum) (cond (eqb n difference_expr) (Some Difference) (cond (eqb n less_expr) (Some Less) None)))))
+
+-- the number of a kind (R67)
+abbrev pub expression_number : ExpressionKind → ℕ
+expression_number Number = number_expr
+expression_number Cell = cell_expr
+expression_number Lane = lane_expr
+expression_number Sum = sum_expr
+expression_number Difference = difference_expr
+expression_number Less = less_expr

@@ -1,4 +1,6 @@
-// The kernel type and the answer. The limits and the kinds of rows are named here once; the definitions hold those that a test uses to the numbers of the rules (R66 to R68).
+// The limits of a kernel's tables, and the kinds of their rows by number (R66 to R68). Each is named here once; the definitions hold them to the numbers of the rules.
+ghost use Rattle.kernels.specs.Promise.{AnswersStatementKind, AnswersExpressionKind, AnswersRefusalNumber, AnswersRefusalPlace};
+
 #[derive(Clone, Copy)]
 pub struct Kernel;
 
@@ -11,39 +13,93 @@ impl Kernel {
     pub const LANES: u32 = 32;
     // cells are below this
     pub const CELLS: usize = 64;
-
-    // the kinds of a statement
-    pub const SKIP: u32 = 0;
-
-    pub const ASSIGN: u32 = 1;
-
-    pub const IF: u32 = 2;
-
-    pub const WHILE: u32 = 3;
-
-    pub const BREAK: u32 = 4;
-
-    pub const CALL: u32 = 5;
-
-    pub const RETURN: u32 = 6;
-
-    // the kinds of an expression
-    pub const NUMBER: u32 = 0;
-
-    pub const CELL: u32 = 1;
-
-    pub const LANE: u32 = 2;
-
-    pub const SUM: u32 = 3;
-
-    pub const DIFFERENCE: u32 = 4;
-
-    pub const LESS: u32 = 5;
 }
 
-// The number of a refusal, with its place; number 0 at place 0: not refused.
-#[derive(Clone, Copy)]
-pub struct Ruling {
-    pub number: u32,
-    pub place: usize,
+// The kinds of a statement.
+#[derive(Clone, Copy, PartialEq, Eq)]
+pub enum StatementKind {
+    Skip,
+    Assign,
+    If,
+    While,
+    Break,
+    Call,
+    Return,
+}
+
+impl StatementKind {
+    // The kind that a number stands for, if there is one.
+    #[tactic(auto, unfolding(crate::specs::Rows::statement_kind))]
+    pub fn of(number: u32) -> Option<Self>
+        ensures { AnswersStatementKind number result }
+    {
+        match number {
+            0 => Some(StatementKind::Skip),
+            1 => Some(StatementKind::Assign),
+            2 => Some(StatementKind::If),
+            3 => Some(StatementKind::While),
+            4 => Some(StatementKind::Break),
+            5 => Some(StatementKind::Call),
+            6 => Some(StatementKind::Return),
+            _ => None,
+        }
+    }
+}
+
+// The kinds of an expression.
+#[derive(Clone, Copy, PartialEq, Eq)]
+pub enum ExpressionKind {
+    Number,
+    Cell,
+    Lane,
+    Sum,
+    Difference,
+    Less,
+}
+
+impl ExpressionKind {
+    // The kind that a number stands for, if there is one.
+    #[tactic(auto, unfolding(crate::specs::Rows::expression_kind))]
+    pub fn of(number: u32) -> Option<Self>
+        ensures { AnswersExpressionKind number result }
+    {
+        match number {
+            0 => Some(ExpressionKind::Number),
+            1 => Some(ExpressionKind::Cell),
+            2 => Some(ExpressionKind::Lane),
+            3 => Some(ExpressionKind::Sum),
+            4 => Some(ExpressionKind::Difference),
+            5 => Some(ExpressionKind::Less),
+            _ => None,
+        }
+    }
+}
+
+// Why a kernel is refused, and at which row.
+#[derive(Clone, Copy, PartialEq, Eq)]
+pub enum Refusal {
+    Malformed(usize),
+    StrayBreak(usize),
+}
+
+impl Refusal {
+    // Its number.
+    pub fn number(self) -> u32
+        ensures { AnswersRefusalNumber self result }
+    {
+        match self {
+            Refusal::Malformed(_) => 17,
+            Refusal::StrayBreak(_) => 18,
+        }
+    }
+
+    // The row.
+    pub fn place(self) -> usize
+        ensures { AnswersRefusalPlace self result }
+    {
+        match self {
+            Refusal::Malformed(place) => place,
+            Refusal::StrayBreak(place) => place,
+        }
+    }
 }

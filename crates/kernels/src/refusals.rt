@@ -4,7 +4,7 @@ ghost use Rattle.kernels.specs.Refusals.{is_bad_length, are_bad_tables};
 ghost use Rattle.kernels.specs.Promise.{AnswersRuling};
 
 use crate::expressions::some_bad_expression;
-use crate::kernel::{Kernel, Ruling};
+use crate::kernel::{Kernel, Refusal};
 use crate::statements::{first_bad_statement, first_stray_break};
 
 // So many numbers, in rows of so many: are the rows not whole, or too many?
@@ -29,33 +29,18 @@ fn bad_tables(s: &[u32], e: &[u32], lanes: u32) -> bool
     some_bad_expression(e)
 }
 
-// Refusal 17 or 18 of a kernel's tables, with its place, or 0 where they pass.
-pub fn ruling(statements: &[u32], expressions: &[u32], lanes: u32) -> Ruling
+// Refusal 17 or 18 of a kernel's tables, if they do not pass.
+pub fn ruling(statements: &[u32], expressions: &[u32], lanes: u32) -> Result<(), Refusal>
     ensures { AnswersRuling statements.now expressions.now lanes result }
 {
     if bad_tables(statements, expressions, lanes) {
-        return Ruling {
-            number: 17,
-            place: 0,
-        };
+        return Err(Refusal::Malformed(0));
     }
-    let n = statements.len() / 5;
-    let bad = first_bad_statement(statements, expressions.len() / 3);
-    if bad < n {
-        return Ruling {
-            number: 17,
-            place: bad,
-        };
+    if let Some(i) = first_bad_statement(statements, expressions.len() / 3) {
+        return Err(Refusal::Malformed(i));
     }
-    let stray = first_stray_break(statements);
-    if stray < n {
-        return Ruling {
-            number: 18,
-            place: stray,
-        };
+    if let Some(i) = first_stray_break(statements) {
+        return Err(Refusal::StrayBreak(i));
     }
-    Ruling {
-        number: 0,
-        place: 0,
-    }
+    Ok(())
 }

@@ -1,79 +1,111 @@
-// The numbers of a row, which rows have a list, and which lie in it.
-ghost use Rattle.std.specs.Prelude.{◌≡◌, cond, ◌+◌, ◌*◌, ◌<◌, length, get_or};
-ghost use Rattle.kernels.specs.Rows.{statements};
-ghost use Rattle.kernels.specs.Refusals.{has_body, uses, owner, missing, is_used_elsewhere};
+// The rows of both tables, what a statement uses, and searches for rows.
+ghost use Rattle.std.specs.Prelude.{◌≡◌, Bool, ◌||◌, ◌&&◌, ℕ, ◌<◌, eqb};
+ghost use Rattle.kernels.specs.Rows.{statements, expressions, call_kind, number_of};
+ghost use Rattle.kernels.specs.Refusals.{found, has_list, has_body, missing, is_used_elsewhere};
+ghost use Rattle.kernels.specs.Needs.{statement_row, expression_row};
 
-use crate::kernel::Kernel;
+use crate::kernel::StatementKind;
 
-// The first number of row i, in rows of so many.
-pub(crate) fn head(table: &[u32], row: usize, i: usize) -> u32
-    requires { row * i < length table.now }
-    ensures { result ≡ get_or table.now (row * i) 0 }
-{
-    table[row * i]
+// The numbers of a statement: the list that it lies in, its kind, and what its kind uses.
+#[derive(Clone, Copy)]
+pub(crate) struct Statement {
+    pub list: u32,
+    pub kind: u32,
+    pub x: u32,
+    pub y: u32,
+    pub z: u32,
 }
 
-// The number of row i that stands k after the first.
-pub(crate) fn number(table: &[u32], row: usize, i: usize, k: usize) -> u32
-    requires { row * i + k < length table.now }
-    ensures { result ≡ get_or table.now (row * i + k) 0 }
-{
-    table[row * i + k]
+// Those of an expression.
+#[derive(Clone, Copy)]
+pub(crate) struct Expression {
+    pub kind: u32,
+    pub x: u32,
+    pub y: u32,
 }
 
-// Does row i have list b for an arm or a body, or, where calls count, call it?
-fn has(s: &[u32], b: u32, i: usize, calls: bool) -> bool
-    requires { i < statements s.now }
-    ensures { result ≡ cond calls (uses s.now b i) (has_body s.now b i) }
+impl Statement {
+    // Row i of the table.
+    pub(crate) fn at(s: &[u32], i: usize) -> Self
+        requires { i < statements s.now }
+        ensures { result ≡ statement_row s.now i }
+    {
+        Statement {
+            list: s[5 * i],
+            kind: s[5 * i + 1],
+            x: s[5 * i + 2],
+            y: s[5 * i + 3],
+            z: s[5 * i + 4],
+        }
+    }
+
+    // Is it of this kind?
+    pub(crate) fn is(self, kind: StatementKind) -> bool
+        ensures { result ≡ eqb self.kind (number_of kind) }
+    {
+        self.kind == kind as u32
+    }
+
+    // Has it list b for an arm or a body?
+    pub(crate) fn has_body(self, b: u32) -> bool
+        ensures { result ≡ has_list self.kind self.y self.z b }
+    {
+        (self.is(StatementKind::If) & ((self.y == b) | (self.z == b)))
+            | (self.is(StatementKind::While) & (self.y == b))
+    }
+
+    // Or does it call it?
+    pub(crate) fn uses(self, b: u32) -> bool
+        ensures { result ≡ has_list self.kind self.y self.z b || (eqb self.kind call_kind && eqb self.x b) }
+    {
+        self.has_body(b) | (self.is(StatementKind::Call) & (self.x == b))
+    }
+}
+
+impl Expression {
+    // Row i of the table.
+    pub(crate) fn at(e: &[u32], i: usize) -> Self
+        requires { i < expressions e.now }
+        ensures { result ≡ expression_row e.now i }
+    {
+        Expression {
+            kind: e[3 * i],
+            x: e[3 * i + 1],
+            y: e[3 * i + 2],
+        }
+    }
+}
+
+// The first number below n that passes a test.
+pub(crate) fn first<F: Fn(usize) -> bool>(n: usize, test: F) -> Option<usize>
+    requires { (i : ℕ) → i < n → F.pre test i }
+    ensures { (p : ℕ → Bool) → ((i : ℕ) (r : Bool) → i < n → F.post test i r → r ≡ p i) → result ≡ found p n }
 {
-    let kind = number(s, 5, i, 1);
-    let y = number(s, 5, i, 3);
-    let body = ((kind == Kernel::IF) & ((y == b) | (number(s, 5, i, 4) == b)))
-        | ((kind == Kernel::WHILE) & (y == b));
-    body | (calls & ((kind == Kernel::CALL) & (number(s, 5, i, 2) == b)))
+    for i in 0..n {
+        if test(i) {
+            return Some(i);
+        }
+    }
+    None
 }
 
 // Does no row lie in list b?
 pub(crate) fn is_missing(s: &[u32], b: u32) -> bool
     ensures { result ≡ missing s.now b }
 {
-    let n = s.len() / 5;
-    let mut i = 0;
-    while i < n {
-        if head(s, 5, i) == b {
-            return false;
-        }
-        i += 1;
-    }
-    true
+    first(s.len() / 5, |i| Statement::at(s, i).list == b).is_none()
 }
 
-// The first row that has list b for an arm or a body, or the number of rows.
-pub(crate) fn owner_of(s: &[u32], b: u32) -> usize
-    ensures { result ≡ owner s.now b }
+// The first row that has list b for an arm or a body.
+pub(crate) fn owner_of(s: &[u32], b: u32) -> Option<usize>
+    ensures { result ≡ found (has_body s.now b) (statements s.now) }
 {
-    let n = s.len() / 5;
-    let mut i = 0;
-    while i < n {
-        if has(s, b, i, false) {
-            return i;
-        }
-        i += 1;
-    }
-    i
+    first(s.len() / 5, |i| Statement::at(s, i).has_body(b))
 }
 
 // Does another row than row i use list b?
 pub(crate) fn used_elsewhere(s: &[u32], i: usize, b: u32) -> bool
     ensures { result ≡ is_used_elsewhere s.now i b }
 {
-    let n = s.len() / 5;
-    let mut j = 0;
-    while j < n {
-        if (j != i) & has(s, b, j, true) {
-            return true;
-        }
-        j += 1;
-    }
-    false
+    first(s.len() / 5, |j| (j != i) & Statement::at(s, j).uses(b)).is_some()
 }

@@ -1,29 +1,25 @@
-// From a row to those that it lies in.
-ghost use Rattle.std.specs.Prelude.{◌≡◌, cond, ◌<◌};
+// From a list to the rows that it lies in.
+ghost use Rattle.std.specs.Prelude.{◌≡◌, Bool, ℕ, ◌<◌};
 ghost use Rattle.kernels.specs.Rows.{statements};
-ghost use Rattle.kernels.specs.Refusals.{inside_itself, in_while};
+ghost use Rattle.kernels.specs.Refusals.{meets_upwards};
 
-use crate::kernel::Kernel;
-use crate::rows::{head, number, owner_of};
+use crate::rows::{Statement, owner_of};
 
-// Upwards from row i: is row i itself met, or, where that is not asked, a while?
-pub(crate) fn meets(s: &[u32], i: usize, itself: bool) -> bool
-    requires { i < statements s.now }
-    ensures { result ≡ cond itself (inside_itself s.now i) (in_while s.now i) }
+// Upwards from list b: is a row met that passes a test?
+pub(crate) fn meets<F: Fn(usize) -> bool>(s: &[u32], b: u32, test: F) -> bool
+    requires { (j : ℕ) → j < statements s.now → F.pre test j }
+    ensures { (p : ℕ → Bool) → ((j : ℕ) (r : Bool) → j < statements s.now → F.post test j r → r ≡ p j)
+        → result ≡ meets_upwards s.now p (statements s.now) b }
 {
-    let n = s.len() / 5;
-    let mut b = head(s, 5, i);
-    let mut left = n;
-    while left > 0 {
-        let j = owner_of(s, b);
-        if n <= j {
+    let mut list = b;
+    for _ in 0..s.len() / 5 {
+        let Some(j) = owner_of(s, list) else {
             return false;
-        }
-        if (itself & (i == j)) | (!itself & (number(s, 5, j, 1) == Kernel::WHILE)) {
+        };
+        if test(j) {
             return true;
         }
-        b = head(s, 5, j);
-        left -= 1;
+        list = Statement::at(s, j).list;
     }
     false
 }

@@ -6,28 +6,13 @@ use Prim.Native.Nat.{ℕ, zero, suc, ◌-◌, ◌*◌, ◌/◌, ◌%◌, ◌^◌
 use native.Mathlib.Decide.{ℕ_discrete}
 use native.Mathlib.Nat.{one-mul, mod-eq_of_lt, div-eq_of_lt, div-eq_of_lt-le, pow-suc}
 use native.Mathlib.Omega.{arith}
-use borrow.Author.Tests.{eq-eqb, ne_eqb, lt-ltb, le-ltb}
 use lib.Bits.{bit_and, bit_xor, and_comm, and_mask, xor_add_and}
 use lib.Count.{count_leading_zeros, leading_top}
 use lib.Dec.{eqb}
 use lib.Pow.{pow_pos, pow_mono}
 use Rattle.relation.specs.Bits.{bit_of}
 use Rattle.relation.proofs.Words.{one_shl, zero_bit}
-use Rattle.lanes.specs.Words.{except, woken_by, highest_of, all_of}
-use Rattle.lanes.specs.declared.Lanes.{Lanes}
-
-module _ (L : Lanes) (k m : ℕ) where
-  abbrev Wakes : (a b r : ℕ) → Type 0
-  Wakes a b r = ◌≡◌ {A = Lanes} (record { active = a; broke = b; returned = r }) (woken_by L k m)
-
-  pub at_join : k < 2 → Wakes (except (except m L.broke) L.returned) L.broke L.returned
-  at_join l = rw (ne_eqb k 2 (λ q. omega arith), le-ltb 2 k (omega arith))
-
-  pub at_brk : 2 ≤ k → k ≡ 2 → Wakes (except (except m (except L.broke m)) L.returned) (except L.broke m) L.returned
-  at_brk l e = rw (eq-eqb k 2 e, le-ltb 2 k (omega arith))
-
-  pub at_call : 2 ≤ k → k ≢ 2 → Wakes (except (except m L.broke) (except L.returned m)) L.broke (except L.returned m)
-  at_call l n = rw (ne_eqb k 2 n, lt-ltb 2 k (omega arith))
+use Rattle.lanes.specs.Words.{highest_of, all_of}
 
 pub highest_none : (n m : ℕ) → m ≡ 0 → 0 ≡ highest_of n m
 unfolding highest_of

@@ -4,6 +4,8 @@ use Rattle.std.specs.Int.Bits.{bit_and, bit_or, bit_xor}
 use Rattle.relation.specs.Bits.{bit_of}
 use Rattle.warps.specs.Warp.{TokenType, div, sync, brk, call, DisableState, on, broke, returned, DisableMask}
 use Rattle.lanes.specs.declared.Lanes.{Lanes}
+use Rattle.lanes.specs.declared.TokenKind.{TokenKind}
+use Rattle.lanes.specs.declared.TokenKind.TheVariants.{Sync, Div, Brk, Call}
 
 -- a lane's disable state by its two bits; no rule sets both
 abbrev pub state_by : (b r : Bool) → DisableState
@@ -27,6 +29,13 @@ brk_token = 2
 abbrev pub call_token : ℕ
 call_token = 3
 
+-- the number of a type
+abbrev pub token_number : TokenKind → ℕ
+token_number Sync = sync_token
+token_number Div = div_token
+token_number Brk = brk_token
+token_number Call = call_token
+
 -- a number past them is a call
 abbrev pub token_type : ℕ → TokenType
 token_type kind = cond (eqb kind sync_token) sync (cond (eqb kind div_token) div (cond (eqb kind brk_token) brk call))
@@ -35,12 +44,16 @@ token_type kind = cond (eqb kind sync_token) sync (cond (eqb kind div_token) div
 abbrev pub except : ℕ → ℕ → ℕ
 except a b = bit_xor a (bit_and a b)
 
+-- those of a mask are active that are not disabled
+abbrev pub waking : Lanes → (mask : ℕ) → Lanes
+waking L mask = record { active = except (except mask L.broke) L.returned; broke = L.broke; returned = L.returned }
+
 -- (token): a brk clears its lanes' b, a call their r; then those of its mask are active that are not disabled (R69)
 abbrev pub woken_by : Lanes → (kind mask : ℕ) → Lanes
 woken_by L kind mask =
     let b = cond (eqb kind brk_token) (except L.broke mask) L.broke in
     let r = cond (ltb brk_token kind) (except L.returned mask) L.returned in
-    record { active = except (except mask b) r; broke = b; returned = r }
+    waking (record { active = L.active; broke = b; returned = r }) mask
 
 -- (break): nobody is active, and those who were have b (R69)
 abbrev pub broken_by : Lanes → Lanes

@@ -1,20 +1,38 @@
 // The lanes of a warp as words of 32 bits: bit t of each belongs to lane t.
 #![tactic(auto)]
 
+ghost use Rattle.std.specs.Prelude.{◌≡◌, min};
+ghost use Rattle.lanes.specs.Words.{except, token_number, waking};
 ghost use Rattle.lanes.specs.Promise.{AnswersWake, AnswersBreakOff, AnswersGiveUp, AnswersLeaveOut, AnswersOnly, AnswersHighest, AnswersAllOf};
 
-// The types of tokens, by number.
-#[derive(Clone, Copy)]
-pub struct TokenKind;
+// The types of tokens.
+#[derive(Clone, Copy, PartialEq, Eq)]
+pub enum TokenKind {
+    Sync,
+    Div,
+    Brk,
+    Call,
+}
 
 impl TokenKind {
-    pub const SYNC: u32 = 0;
+    // The type of a number. A number past the types is a call.
+    fn of(number: u32) -> Self
+        ensures { token_number result ≡ min number 3 }
+    {
+        match number {
+            0 => TokenKind::Sync,
+            1 => TokenKind::Div,
+            2 => TokenKind::Brk,
+            _ => TokenKind::Call,
+        }
+    }
+}
 
-    pub const DIV: u32 = 1;
-
-    pub const BRK: u32 = 2;
-
-    pub const CALL: u32 = 3;
+// The bits of a that are not in b.
+fn without(a: u32, b: u32) -> u32
+    ensures { result ≡ except a b }
+{
+    a & !b
 }
 
 // The active mask and the disable states: the lanes that broke off a loop, and those that returned.
@@ -26,34 +44,32 @@ pub struct Lanes {
 }
 
 impl Lanes {
+    // Those of a mask are active that are not disabled.
+    fn awake(self, mask: u32) -> Self
+        ensures { result ≡ waking self mask }
+    {
+        Lanes {
+            active: without(without(mask, self.broke), self.returned),
+            ..self
+        }
+    }
+
     // A token comes off the stack. A number past the types is a call.
     pub fn wake(self, kind: u32, mask: u32) -> Self
         ensures { AnswersWake self kind mask result }
     {
-        if kind < TokenKind::BRK {
-            let some = mask ^ (mask & self.broke);
-            return Lanes {
-                active: some ^ (some & self.returned),
-                broke: self.broke,
-                returned: self.returned,
-            };
-        }
-        if kind == TokenKind::BRK {
-            let broke = self.broke ^ (self.broke & mask);
-            let some = mask ^ (mask & broke);
-            return Lanes {
-                active: some ^ (some & self.returned),
-                broke: broke,
-                returned: self.returned,
-            };
-        }
-        let some = mask ^ (mask & self.broke);
-        let returned = self.returned ^ (self.returned & mask);
-        Lanes {
-            active: some ^ (some & returned),
-            broke: self.broke,
-            returned: returned,
-        }
+        let able = match TokenKind::of(kind) {
+            TokenKind::Sync | TokenKind::Div => self,
+            TokenKind::Brk => Lanes {
+                broke: without(self.broke, mask),
+                ..self
+            },
+            TokenKind::Call => Lanes {
+                returned: without(self.returned, mask),
+                ..self
+            },
+        };
+        able.awake(mask)
     }
 
     // The active lanes break off.
@@ -63,7 +79,7 @@ impl Lanes {
         Lanes {
             active: 0,
             broke: self.broke | self.active,
-            returned: self.returned,
+            ..self
         }
     }
 
@@ -73,8 +89,8 @@ impl Lanes {
     {
         Lanes {
             active: 0,
-            broke: self.broke,
             returned: self.returned | self.active,
+            ..self
         }
     }
 
@@ -83,9 +99,8 @@ impl Lanes {
         ensures { AnswersLeaveOut self mask result }
     {
         Lanes {
-            active: self.active ^ (self.active & mask),
-            broke: self.broke,
-            returned: self.returned,
+            active: without(self.active, mask),
+            ..self
         }
     }
 
@@ -95,8 +110,7 @@ impl Lanes {
     {
         Lanes {
             active: mask,
-            broke: self.broke,
-            returned: self.returned,
+            ..self
         }
     }
 }
@@ -108,7 +122,7 @@ pub fn highest(mask: u32) -> u32
     if mask == 0 {
         return 0;
     }
-    31 ^ u32::leading_zeros(mask)
+    31 ^ mask.leading_zeros()
 }
 
 // The mask of the first n lanes; there are 32.
@@ -118,5 +132,5 @@ pub fn all_of(n: u32) -> u32
     if n < 32 {
         return (1u32 << n) - 1;
     }
-    4294967295
+    u32::MAX
 }

@@ -1,29 +1,54 @@
 -- `bad_statement` meets its contract, by the row's kind. Assumes nothing.
-use borrow.Author.Tests.{eq-eqb, ne_eqb}
-use Rattle.kernels.specs.Refusals.{is_bad_statement}
+use mathlib.Core.Path.{◌≡◌, sym, ap, ◌∙◌}
+use mathlib.Core.Logic.{◌⊎◌, inl, inr}
+use mathlib.Core.Bool.{true, false}
+use mathlib.Core.List.{List}
+use Prim.Native.Nat.{ℕ, ◌<◌}
+use native.Mathlib.Omega.{arith}
+use borrow.Author.Tests.{lt-ltb, ne_eqb}
+use Rattle.kernels.specs.declared.kernel.StatementKind.{StatementKind}
+use Rattle.kernels.specs.declared.kernel.StatementKind.TheVariants.{Skip, Assign, If, While, Break, Call, Return}
+use Rattle.kernels.specs.Rows.{number_of}
+use Rattle.kernels.specs.Refusals.{is_bad_assignment, is_bad_if, is_bad_while, is_bad_call, is_bad_by}
+use Rattle.kernels.proofs.Numbers.{kind_is, no_statement}
 use Rattle.kernels.proofs.statements.bad_statement.Goals as goal
 
-pub returns-then-kind-eq-ASSIGN : goal.returns-then-kind-eq-ASSIGN
-unfolding is_bad_statement
-returns-then-kind-eq-ASSIGN c =
-    simp (← c.number-kind.ensures, ← c.number-x.ensures, ← c.number-y.ensures, eq-eqb _ _ c.if-kind-eq-ASSIGN.true, ← c.bad_assignment.ensures)
+module _ (s : List ℕ) (count i b n x y z : ℕ) where
+  unknown : 6 < n → true ≡ is_bad_by s count i b n x y z
+  unknown l = sym (rw (ne_eqb n 1 (λ q. omega arith), ne_eqb n 2 (λ q. omega arith), ne_eqb n 3 (λ q. omega arith), ne_eqb n 5 (λ q. omega arith), lt-ltb 6 n l))
 
-pub returns-then-kind-eq-IF : goal.returns-then-kind-eq-IF
-unfolding is_bad_statement
-returns-then-kind-eq-IF c =
-    simp (← c.number-kind.ensures, ← c.number-x.ensures, ← c.number-y.ensures, ← c.number.ensures, ne_eqb _ _ c.if-kind-eq-ASSIGN.false, eq-eqb _ _ c.if-kind-eq-IF.true, ← c.bad_if.ensures)
+  module _ (k : StatementKind) (q : n ≡ number_of k) where
+    idle : (k ≡ Skip) ⊎ ((k ≡ Break) ⊎ (k ≡ Return)) → false ≡ is_bad_by s count i b n x y z
+    idle (inl e) = sym (rw (q ∙ ap number_of e))
+    idle (inr (inl e)) = sym (rw (q ∙ ap number_of e))
+    idle (inr (inr e)) = sym (rw (q ∙ ap number_of e))
 
-pub returns-then-kind-eq-WHILE : goal.returns-then-kind-eq-WHILE
-unfolding is_bad_statement
-returns-then-kind-eq-WHILE c =
-    simp (← c.number-kind.ensures, ← c.number-x.ensures, ← c.number-y.ensures, ne_eqb _ _ c.if-kind-eq-ASSIGN.false, ne_eqb _ _ c.if-kind-eq-IF.false, eq-eqb _ _ c.if-kind-eq-WHILE.true, ← c.bad_while.ensures)
+    assigns : k ≡ Assign → is_bad_assignment count x y ≡ is_bad_by s count i b n x y z
+    assigns e = sym (rw (q ∙ ap number_of e))
 
-pub returns-then-kind-eq-CALL : goal.returns-then-kind-eq-CALL
-unfolding is_bad_statement
-returns-then-kind-eq-CALL c =
-    simp (← c.number-kind.ensures, ← c.number-x.ensures, ne_eqb _ _ c.if-kind-eq-ASSIGN.false, ne_eqb _ _ c.if-kind-eq-IF.false, ne_eqb _ _ c.if-kind-eq-WHILE.false, eq-eqb _ _ c.if-kind-eq-CALL.true, ← c.bad_call.ensures)
+    branches : k ≡ If → is_bad_if s count i b x y z ≡ is_bad_by s count i b n x y z
+    branches e = sym (rw (q ∙ ap number_of e))
 
-pub returns : goal.returns
-unfolding is_bad_statement
-returns c =
-    simp (← c.number-kind.ensures, ne_eqb _ _ c.if-kind-eq-ASSIGN.false, ne_eqb _ _ c.if-kind-eq-IF.false, ne_eqb _ _ c.if-kind-eq-WHILE.false, ne_eqb _ _ c.if-kind-eq-CALL.false)
+    loops : k ≡ While → is_bad_while s count i b x y ≡ is_bad_by s count i b n x y z
+    loops e = sym (rw (q ∙ ap number_of e))
+
+    calls : k ≡ Call → is_bad_call s x ≡ is_bad_by s count i b n x y z
+    calls e = sym (rw (q ∙ ap number_of e))
+
+pub returns-in_default : goal.returns-in_default
+returns-in_default c = unknown _ _ _ _ _ _ _ _ (no_statement _ (sym c.of.ensures ∙ c.in_default.is))
+
+pub returns-in-Assign : goal.returns-in-Assign
+returns-in-Assign c = c.bad_assignment.ensures ∙ assigns _ _ _ _ _ _ _ _ _ (kind_is _ _ (sym c.in-Some.ensures)) c.in-Assign.is
+
+pub returns-in-If : goal.returns-in-If
+returns-in-If c = c.bad_if.ensures ∙ branches _ _ _ _ _ _ _ _ _ (kind_is _ _ (sym c.in-Some.ensures)) c.in-If.is
+
+pub returns-in-While : goal.returns-in-While
+returns-in-While c = c.bad_while.ensures ∙ loops _ _ _ _ _ _ _ _ _ (kind_is _ _ (sym c.in-Some.ensures)) c.in-While.is
+
+pub returns-in-Call : goal.returns-in-Call
+returns-in-Call c = c.bad_call.ensures ∙ calls _ _ _ _ _ _ _ _ _ (kind_is _ _ (sym c.in-Some.ensures)) c.in-Call.is
+
+pub returns-in-Skip : goal.returns-in-Skip
+returns-in-Skip c = idle _ _ _ _ _ _ _ _ _ (kind_is _ _ (sym c.in-Some.ensures)) c.in-Skip.is

