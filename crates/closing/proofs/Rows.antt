@@ -29,10 +29,6 @@ rows_more b r s w i f g R N e =
           N.outside p (inr g) ∙ R.kept p (omega arith);
     }
 
--- all rows are done
-pub rows_all : {b r : List ℕ} {w i m : ℕ} {f : ℕ → ℕ → Bool} → i ≤ m → m ≤ i → RowsAre b r w i f → RowsAre b r w m f
-rows_all {i = i} {m = m} low high R = let e : i ≡ m = omega arith in rw e at R
-
 -- a row that is not done is as it was
 pub not_done : (b r : List ℕ) (w i k j : ℕ) (f : ℕ → ℕ → Bool) → RowsAre b r w i f → i ≤ k → bit_at r w k j ≡ bit_at b w k j
 not_done b r w i k j f R h = by_word r b w k j (R.kept (k * w + j / 32) (omega (arith, mul-le-mul_right {m = i} {n = k} w h)))

@@ -13,7 +13,7 @@ fn trim_row(room: &mut [u32], m: u32, i: u32)
     let full = m as usize / 32;
     let last = i as usize * (full + 1) + full;
     let used = m % 32;
-    room[last] = room[last] % (1 << used);
+    room[last] %= 1 << used;
 }
 
 // The padding of each row is cleared, where rows have padding.
@@ -24,9 +24,7 @@ pub(crate) fn trim(room: &mut [u32], m: u32)
     if m % 32 == 0 {
         return;
     }
-    let mut i = 0;
-    while i < m {
+    for i in 0..m {
         trim_row(room, m, i);
-        i += 1;
     }
 }

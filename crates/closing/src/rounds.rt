@@ -23,10 +23,8 @@ fn join_rows(room: &mut [u32], m: u32, k: u32, first: u32, end: u32)
     ensures { (old : List ℕ) → RowsAre old room.old (width m) first (joined_if old (width m) k)
         → RowsAre old room.new (width m) end (joined_if old (width m) k) }
 {
-    let mut i = first;
-    while i < end {
+    for i in first..end {
         join_if(room, m, i, k);
-        i += 1;
     }
 }
 
@@ -45,9 +43,7 @@ pub(crate) fn all_rounds(room: &mut [u32], m: u32)
     requires { words m ≤ length room.old }
     ensures { RowsAre room.old room.new (width m) m (rounds (bit_at room.old (width m)) m) }
 {
-    let mut k = 0;
-    while k < m {
+    for k in 0..m {
         round(room, m, k);
-        k += 1;
     }
 }

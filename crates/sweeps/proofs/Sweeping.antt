@@ -10,7 +10,6 @@ use lib.ListN.{length, get_or}
 use borrow.Author.Tests.{leb-true}
 use Rattle.relation.specs.Chains.{Reach}
 use Rattle.relation.specs.Table.{words, Joins, Writes}
-use Rattle.relation.proofs.Truth.{clashing}
 use Rattle.relation.proofs.Rooms.{written}
 use Rattle.sweeps.specs.Pairs.{pair_count, PairBetween, PairIn}
 use Rattle.sweeps.specs.Needs.{Joined, Pass, At, AllTaken}
@@ -46,16 +45,9 @@ settled J P f = record { joins = joined_join J P.joins; closed = λ i k e. rw (P
 -- ---- each number at itself comes first
 
 module _ {b d : List ℕ} {m : ℕ} {said : Bool} (D : Writes (λ i j. i ≡ j) b d m said) where
-  -- it was refused
-  pub unreached : {R : ℕ → ℕ → Type 0} → said ≡ false → Writes R b d m false
-  unreached f = record { answer = sym f ∙ D.answer; refused = λ e. D.refused f; holds = λ t. clashing t refl }
-
   module _ (t : said ≡ true) where
     had_room : words m ≤ length b
     had_room = leb-true _ _ (sym D.answer ∙ t)
-
-    pub has_room : words m ≤ length d
-    has_room = rw (D.holds t).len had_room
 
     -- and then every edge was taken
     pub reached : {list s : List ℕ} → AllTaken (PairIn list m) m d s → Writes (Reach (PairIn list m)) b s m true

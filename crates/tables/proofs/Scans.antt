@@ -1,5 +1,5 @@
 -- A search from the front finds the lowest number that passes a test. Assumes nothing.
-use mathlib.Core.Path.{◌≡◌, sym}
+use mathlib.Core.Path.{◌≡◌, sym, ap, ◌∙◌}
 use mathlib.Core.Bool.{Bool, true, false}
 use mathlib.Mathlib.Data.Bool.Basic.{dichotomy}
 use Prim.Native.Nat.{ℕ, ◌+◌, ◌≤◌, ◌<◌}
@@ -7,7 +7,7 @@ use native.Mathlib.Omega.{arith}
 use borrow.Author.Count.{below_none, below_more}
 use borrow.Author.Tests.{lt-ltb, le-ltb, ltb-true, ltb-false}
 use Rattle.std.proofs.Common.{Some, None, ltb, ⊎_elim}
-use Rattle.tables.specs.Lowest.{lowest, found}
+use Rattle.tables.specs.Lowest.{lowest, below, found}
 use Rattle.tables.proofs.Lowest.{lowest_first, lowest_is}
 
 -- the search has come to i, and no number below i passes
@@ -34,31 +34,36 @@ lowest_passes p n e l = rw e ((lowest_first p n).passes (omega arith))
 
 -- ---- a search that answers nothing where no number passes
 
-module _ (p : ℕ → Bool) {n i : ℕ} where
-  pub found_some : Scanned p n i → i < n → p i ≡ true → Some i ≡ found p n
-  unfolding found
-  found_some s l e = let q = scan_found p s e in rw (← q, lt-ltb i n l)
+module _ {n i : ℕ} where
+  pub below_some : i < n → Some i ≡ below n i
+  unfolding below
+  below_some l = rw (lt-ltb i n l)
 
-  pub found_none : Scanned p n i → n ≤ i → None ≡ found p n
-  unfolding found
-  found_none s l = let q = scan_end p s l in rw (← q, le-ltb i n l)
+  pub below_none_of : n ≤ i → None ≡ below n i
+  unfolding below
+  below_none_of l = rw (le-ltb i n l)
 
--- what it has found, or not
-module _ (p : ℕ → Bool) (n : ℕ) where
-  pub found_hit : {i : ℕ} → Some i ≡ found p n → (i < n) × (i ≡ lowest p n)
-  unfolding found
-  found_hit {i} e =
+  pub below_hit : {t : ℕ} → Some t ≡ below n i → (t < n) × (t ≡ i)
+  unfolding below
+  below_hit {t} e =
       ⊎_elim
-      (λ (f : ltb (lowest p n) n ≡ false). absurd (let q : Some i ≡ None = rw f at e in cc))
-      (λ (t : ltb (lowest p n) n ≡ true).
-      let q : Some i ≡ Some (lowest p n) = rw t at e in
-      let s : i ≡ lowest p n = cc in
-      (omega (arith, ltb-true _ _ t), s))
-      (dichotomy (ltb (lowest p n) n))
+      (λ (f : ltb i n ≡ false). absurd (let q : Some t ≡ None = rw f at e in cc))
+      (λ (h : ltb i n ≡ true).
+      let q : Some t ≡ Some i = rw h at e in
+      let s : t ≡ i = cc in
+      (omega (arith, ltb-true _ _ h), s))
+      (dichotomy (ltb i n))
 
-  pub found_miss : None ≡ found p n → lowest p n ≡ n
-  unfolding found
-  found_miss e =
-      ⊎_elim (λ (f : ltb (lowest p n) n ≡ false). omega (arith, ltb-false _ _ f, (lowest_first p n).at_most))
-      (λ (t : ltb (lowest p n) n ≡ true). absurd (let q : None ≡ Some (lowest p n) = rw t at e in cc))
-      (dichotomy (ltb (lowest p n) n))
+  pub below_miss : None ≡ below n i → n ≤ i
+  unfolding below
+  below_miss e =
+      ⊎_elim (λ (f : ltb i n ≡ false). ltb-false _ _ f)
+      (λ (h : ltb i n ≡ true). absurd (let q : None ≡ Some i = rw h at e in cc))
+      (dichotomy (ltb i n))
+
+module _ (p : ℕ → Bool) {n i : ℕ} (s : Scanned p n i) where
+  pub found_some : i < n → p i ≡ true → Some i ≡ found p n
+  found_some l e = below_some l ∙ ap (below n) (scan_found p s e)
+
+  pub found_none : n ≤ i → None ≡ found p n
+  found_none l = below_none_of l ∙ ap (below n) (scan_end p s l)

@@ -2,32 +2,31 @@
 use mathlib.Core.Path.{◌≡◌, refl, sym, ap, ◌∙◌}
 use mathlib.Core.Bool.{Bool, true, false, not, ◌&&◌}
 use mathlib.Core.List.{List, [], ◌∷◌}
-use mathlib.Core.Logic.{by_cases, ◌≢◌}
+use mathlib.Core.Logic.{by_cases, ⊎_elim, ◌≢◌}
 use Prim.Native.Nat.{ℕ, ◌≤◌, ◌<◌}
-use native.Mathlib.Decide.{ℕ_discrete}
+use native.Mathlib.Decide.{dec_lt, ℕ_discrete}
 use native.Mathlib.Omega.{arith}
 use lib.Dec.{eqb, ltb}
-use lib.ListN.{length, get_or, set}
+use lib.ListN.{length, get_or, set, get_or-eq_default}
 use borrow.Author.Tests.{lt-ltb, le-ltb, ltb-true, eq-eqb, ne_eqb}
-use Rattle.relation.proofs.Truth.{both}
+use Rattle.std.specs.Option.{option_or}
+use Rattle.relation.proofs.Truth.{both, split}
 use Rattle.tables.specs.Limits.{most_threads}
-use Rattle.tables.specs.Lowest.{lowest}
+use Rattle.tables.specs.Lowest.{lowest, below, found}
 use Rattle.tables.proofs.Lowest.{lowest_is}
 use Rattle.turns.specs.Turns.{held, let_go_of, released, settled, has_any_left, may_go, may_step, lowest_or}
 
 -- ---- the lowest that passes one test, or else another
 
 module _ (p q : ℕ → Bool) (n : ℕ) where
-  module _ {t : ℕ} (is : t ≡ lowest p n) where
-    pub or_first : t < n → t ≡ lowest_or p q n
-    or_first l = rw (lt-ltb (lowest p n) n (omega (arith, is))) is
-
-    pub or_second : n ≤ t → {r : ℕ} → r ≡ lowest q n → r ≡ lowest_or p q n
-    or_second l e = rw (le-ltb (lowest p n) n (omega (arith, is))) e
+  pub found_or : option_or (found p n) (found q n) ≡ below n (lowest_or p q n)
+  unfolding below
+  found_or = ⊎_elim (λ (e : ltb (lowest p n) n ≡ true). rw e (rw e)) (λ (e : ltb (lowest p n) n ≡ false). rw e) (split (ltb (lowest p n) n))
 
   pub or_none : ((k : ℕ) → k < n → p k ≡ false) → lowest q n ≡ lowest_or p q n
   or_none none =
-      or_second (sym (lowest_is p (record { at_most = omega arith; passes = λ l. absurd (omega arith); below = none }))) (omega arith) refl
+      let is : lowest p n ≡ n = lowest_is p (record { at_most = omega arith; passes = λ l. absurd (omega arith); below = none }) in
+      rw (le-ltb (lowest p n) n (omega arith))
 
 -- ---- a thread that has a command left
 
@@ -44,6 +43,12 @@ module _ (lengths : List ℕ) (t n : ℕ) where
     pub left_is : t < length lengths → ltb n (get_or lengths t 0) ≡ has_any_left lengths t n
     unfolding has_any_left
     left_is l = rw (lt-ltb t most_threads h, lt-ltb t (length lengths) l)
+
+  pub left_within : t < most_threads → ltb n (get_or lengths t 0) ≡ has_any_left lengths t n
+  left_within h =
+      by_cases (dec_lt t (length lengths)) (λ (l : t < length lengths). left_is h l)
+      (λ (l : ¬ (t < length lengths)).
+      ap (ltb n) (get_or-eq_default lengths 0 {n = t} (omega arith)) ∙ le-ltb n 0 (omega arith) ∙ left_none h (omega arith))
 
   pub record Left : Type 0 where
     pub thread : t < most_threads

@@ -1,6 +1,6 @@
--- What each public function promises; for `at` that is relation's `AnswersAt`.
-use Rattle.std.specs.Prelude.{◌≡◌, Bool, List, ℕ, length, set}
-use Rattle.tables.specs.Lowest.{lowest}
+-- What each public function promises.
+use Rattle.std.specs.Prelude.{◌≡◌, Bool, List, Option, ℕ, length, set}
+use Rattle.tables.specs.Lowest.{found}
 use Rattle.sets.specs.declared.Set.{Set}
 use Rattle.turns.specs.declared.ready.Ready.{Ready}
 use Rattle.turns.specs.Turns.{held, settled, may_go, may_step}
@@ -15,8 +15,8 @@ abbrev pub Settles : (waits : List ℕ) (t wait frees : ℕ) (waits' : List ℕ)
 Settles waits t wait frees waits' = waits' ≡ settled t wait frees waits
 
 -- `lowest_blocked`
-abbrev pub AnswersLowestBlocked : (waits : List ℕ) (threads r : ℕ) → Type 0
-AnswersLowestBlocked waits threads r = r ≡ lowest (held waits) threads
+abbrev pub AnswersLowestBlocked : (waits : List ℕ) (threads : ℕ) (r : Option ℕ) → Type 0
+AnswersLowestBlocked waits threads r = r ≡ found (held waits) threads
 
 -- `blocked_set`
 abbrev pub AnswersBlockedSet : (lengths waits : List ℕ) (r : Set) → Type 0
@@ -31,8 +31,8 @@ abbrev pub AnswersAllows : (lengths : List ℕ) (t n wait : ℕ) (r : Bool) → 
 AnswersAllows lengths t n wait r = r ≡ may_go lengths t n wait
 
 -- `lowest_allowed`
-abbrev pub AnswersLowestAllowed : (lengths next waits : List ℕ) (r : ℕ) → Type 0
-AnswersLowestAllowed lengths next waits r = r ≡ lowest (may_step lengths next waits) (length lengths)
+abbrev pub AnswersLowestAllowed : (lengths next waits : List ℕ) (r : Option ℕ) → Type 0
+AnswersLowestAllowed lengths next waits r = r ≡ found (may_step lengths next waits) (length lengths)
 
 -- `Ready::none`
 abbrev pub AnswersReadyNone : (r : Ready) → Type 0
@@ -43,5 +43,5 @@ abbrev pub AnswersLook : (ready : Ready) (lengths : List ℕ) (early : List Bool
 AnswersLook ready lengths early t n x r = r ≡ looked lengths early ready t n x
 
 -- `Ready::choose`
-abbrev pub AnswersChoose : (ready : Ready) (blocked : Set) (r : ℕ) → Type 0
+abbrev pub AnswersChoose : (ready : Ready) (blocked : Set) (r : Option ℕ) → Type 0
 AnswersChoose ready blocked r = r ≡ chosen ready blocked

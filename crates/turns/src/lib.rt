@@ -7,4 +7,4 @@ mod waiting; // what threads wait for
 
 pub use choice::{allows, lowest_allowed};
 pub use ready::Ready;
-pub use waiting::{at, blocked_after, blocked_set, lowest_blocked, put, settle};
+pub use waiting::{blocked_after, blocked_set, lowest_blocked, put, settle};

@@ -1,23 +1,13 @@
 // What threads wait for: 0, or a barrier plus 1.
 ghost use Rattle.std.specs.Prelude.{◌≡◌};
-ghost use Rattle.relation.specs.Promise.{AnswersAt};
 ghost use Rattle.turns.specs.Turns.{held, let_go_of, released};
 ghost use Rattle.turns.specs.Promise.{PutsNumber, Settles, AnswersLowestBlocked, AnswersBlockedSet, AnswersBlockedAfter};
 
+use relation::at;
 use sets::Set;
 use tables::Table;
 
-// The number at a place, or 0 past the end.
-pub fn at(numbers: &[u32], i: usize) -> u32
-    ensures { AnswersAt numbers.now i result }
-{
-    if i < numbers.len() {
-        return numbers[i];
-    }
-    0
-}
-
-// A number is put at a place; past the end there is none.
+// A number is put at a place; past the end there is none. By the index: what `get_mut` writes, a proof does not see.
 pub fn put(numbers: &mut [u32], i: usize, x: u32)
     ensures { PutsNumber numbers.old i x numbers.new }
 {
@@ -30,7 +20,7 @@ pub fn put(numbers: &mut [u32], i: usize, x: u32)
 fn is_held(waits: &[u32], t: usize) -> bool
     ensures { result ≡ held waits.now t }
 {
-    (t < Table::THREADS) & (at(waits, t) != 0)
+    (t < Table::THREADS) & (at(waits, t, 0) != 0)
 }
 
 // A thread that waits for w does so no more.
@@ -44,10 +34,8 @@ fn let_go(waits: u32, w: u32) -> u32
 fn release(waits: &mut [u32], w: u32)
     ensures { waits.new ≡ released w waits.old }
 {
-    let mut t = 0;
-    while t < waits.len() {
-        waits[t] = let_go(waits[t], w);
-        t += 1;
+    for wait in waits.iter_mut() {
+        *wait = let_go(*wait, w);
     }
 }
 
@@ -61,18 +49,16 @@ pub fn settle(waits: &mut [u32; Table::THREADS], t: usize, wait: u32, frees: u32
     }
 }
 
-// The lowest of some threads that is blocked, or their number.
-pub fn lowest_blocked(waits: &[u32], threads: usize) -> usize
+// The lowest of some threads that is blocked.
+pub fn lowest_blocked(waits: &[u32], threads: usize) -> Option<usize>
     ensures { AnswersLowestBlocked waits.now threads result }
 {
-    let mut t = 0;
-    while t < threads {
+    for t in 0..threads {
         if is_held(waits, t) {
-            return t;
+            return Some(t);
         }
-        t += 1;
     }
-    t
+    None
 }
 
 // Which of the table's threads are blocked.
@@ -80,10 +66,8 @@ pub fn blocked_set(lengths: &[u32], waits: &[u32]) -> Set
     ensures { AnswersBlockedSet lengths.now waits.now result }
 {
     let mut blocked = Set::none();
-    let mut t = 0;
-    while t < lengths.len() {
+    for t in 0..lengths.len() {
         blocked = blocked.put(t, is_held(waits, t));
-        t += 1;
     }
     blocked
 }

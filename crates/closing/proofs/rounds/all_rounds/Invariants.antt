@@ -1,5 +1,4 @@
 -- The table holds the chains through numbers below k. Assumes nothing.
-use Prim.Native.Nat.{◌≤◌, ◌-◌}
 use Rattle.relation.specs.Bits.{bit_at}
 use Rattle.relation.specs.Chains.{rounds}
 use Rattle.relation.specs.Table.{width}
@@ -7,7 +6,4 @@ use Rattle.closing.specs.Needs.{RowsAre}
 use Rattle.closing.proofs.rounds.all_rounds.Given as goal
 
 abbrev pub invariant-loop-k : goal.invariant-loop-k
-invariant-loop-k l = (l.k ≤ l.m) × RowsAre l.initial.room l.room (width l.m) l.m (rounds (bit_at l.initial.room (width l.m)) l.k)
-
-abbrev pub decreases-loop-k : goal.decreases-loop-k
-decreases-loop-k l = l.m - l.k
+invariant-loop-k l = RowsAre l.initial.room l.room (width l.m) l.m (rounds (bit_at l.initial.room (width l.m)) l.k)

@@ -1,7 +1,7 @@
 -- The round has come to row i. Assumes nothing.
 use mathlib.Core.Path.{◌≡◌}
 use mathlib.Core.List.{List}
-use Prim.Native.Nat.{ℕ, ◌≤◌, ◌-◌}
+use Prim.Native.Nat.{ℕ}
 use lib.ListN.{length}
 use Rattle.relation.specs.Table.{width}
 use Rattle.closing.specs.Needs.{RowsAre, joined_if}
@@ -9,8 +9,5 @@ use Rattle.closing.proofs.rounds.join_rows.Given as goal
 
 abbrev pub invariant-loop-i : goal.invariant-loop-i
 invariant-loop-i l =
-    (l.i ≤ l.end) × (length l.room ≡ length l.initial.room)
+    (length l.room ≡ length l.initial.room)
     × ((old : List ℕ) → RowsAre old l.initial.room (width l.m) l.first (joined_if old (width l.m) l.k) → RowsAre old l.room (width l.m) l.i (joined_if old (width l.m) l.k))
-
-abbrev pub decreases-loop-i : goal.decreases-loop-i
-decreases-loop-i l = l.end - l.i

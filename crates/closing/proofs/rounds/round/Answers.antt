@@ -1,12 +1,7 @@
 -- The rows before k, row k itself, the rows after it. Assumes nothing.
-use native.Mathlib.Omega.{arith}
 use Rattle.closing.proofs.Rows.{rows_none}
 use Rattle.closing.proofs.Warshall.{round_self}
 use Rattle.closing.proofs.rounds.round.Goals as goal
-
-pub join_rows-requires-2 : goal.join_rows-requires-2
-join_rows-requires-2 c =
-    rw (c.join_rows.ensures _ (rows_none _ _ _)).len (c.requires.0, c.requires.1, omega (arith, c.requires.1), omega arith)
 
 pub returns : goal.returns
 returns c =

@@ -1,4 +1,3 @@
-use mathlib.Core.Path.{◌≡◌}
 use Prim.Native.Nat.{◌-◌}
 use native.Mathlib.Omega.{arith}
 use Rattle.sweeps.proofs.Passes.{still_fits, pass_none, pass_join, pass_part}
@@ -17,9 +16,3 @@ loop-e-preserved c =
           (pass_join l.invariant.1
           (pass_pair a.pairs.now (l.e - 1) (still_fits c.requires.0 l.invariant.1.joins) (omega (arith, c.requires.2)) c.join-changed.ensures)),
     )
-
-pub returns : goal.returns
-returns c =
-    let l = c.loop-e in
-    let e : l.e ≡ c.args.first = omega (arith, c.loop-e-test.false, l.invariant.0) in
-    rw e at l.invariant.1

@@ -1,12 +1,7 @@
 -- `blocked_set` meets its contract: the threads that the loop has passed are in the set, or not. Assumes nothing.
 use mathlib.Core.Path.{◌≡◌}
-use Prim.Native.Nat.{◌-◌, ◌≤◌}
-use lib.ListN.{length}
 use Rattle.turns.specs.Ready.{held_below}
 use Rattle.turns.proofs.waiting.blocked_set.Given as goal
 
 abbrev pub invariant-loop-t : goal.invariant-loop-t
-invariant-loop-t l = (l.t ≤ length l.lengths) × (l.blocked ≡ held_below l.waits l.t)
-
-abbrev pub decreases-loop-t : goal.decreases-loop-t
-decreases-loop-t l = length l.lengths - l.t
+invariant-loop-t l = l.blocked ≡ held_below l.waits l.t

@@ -4,4 +4,4 @@ use Rattle.turns.proofs.ready.Ready.look.Goals as goal
 
 pub returns : goal.returns
 unfolding looked
-returns c = rw (← c.has_left-left.ensures, ← c.goes_first.ensures, ← c.put.ensures, ← c.put-2.ensures)
+returns c = rw (← c.has_left-left.ensures, ← c.at.ensures, ← c.put.ensures, ← c.put-2.ensures)
