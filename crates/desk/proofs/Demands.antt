@@ -3,6 +3,7 @@ use mathlib.Core.Path.{◌≡◌, refl, sym, ap, subst, ◌∙◌}
 use mathlib.Core.Bool.{Bool, true, false, cond}
 use mathlib.Core.Logic.{◌⊎◌, inl, inr, ⊎_elim, by_cases}
 use mathlib.Core.List.{List}
+use Rattle.std.specs.Prelude.{Ok, Err}
 use Prim.Native.Nat.{ℕ, ◌*◌, ◌≤◌, ◌<◌}
 use native.Mathlib.Omega.{arith}
 use native.Mathlib.Decide.{dec_lt}
@@ -16,10 +17,9 @@ use Rattle.verdicts.proofs.Numbers.{settles_complete, disagrees_complete, unread
 use Rattle.relation.proofs.Truth.{clashing}
 use Rattle.rules.proofs.Rules.{kept, passes, passes_zero}
 use Rattle.spelling.specs.Machine.{Outcome, flat}
-use Rattle.notation.specs.declared.reading.Reading.{Reading}
-use Rattle.notation.specs.declared.reading.Reading.TheVariants.{Unfit, Over, Accepted}
+use Rattle.notation.specs.declared.reading.Unread.TheVariants.{Unfit, Over}
 use Rattle.grammar.specs.Grammar.{Listing, Denotes, all_commands, threads, listing_lengths}
-use Rattle.notation.specs.Reading.{most_bytes, Answer, answered, row_numbers, thread_lengths}
+use Rattle.notation.specs.Reading.{Reading, most_bytes, Answer, answered, row_numbers, thread_lengths}
 use Rattle.notation.specs.Promise.{Within, RefusedAt}
 use Rattle.notation.proofs.Readings.{denoted_found, Stands, reads, answered_reads, denoted_reads, reads_means}
 use Rattle.notation.proofs.Tabled.{listing_checked}
@@ -112,11 +112,11 @@ module _ (text : List ℕ) where
   kind = by taken refl (reads_means text (most_rows * 3) most_threads)
     where
       by : (r : Reading) → taken ≡ r → Stands text (most_rows * 3) most_threads r → Kind
-      by (Unfit p) e (_, _, s) =
+      by (Err (Unfit p)) e (_, _, s) =
           let q = refused_told (read_told e) (λ z. omega arith) in
           unread (ap (λ (t : Told). t.number) q) (subst (RefusedAt text) (ap (λ (t : Told). t.place) (sym q)) s)
-      by Over e s = over (ap (λ (t : Told). t.number) (refused_told (read_told e) (λ z. omega arith))) s
-      by (Accepted m t) e (x, d, w) =
+      by (Err Over) e s = over (ap (λ (t : Told). t.number) (refused_told (read_told e) (λ z. omega arith))) s
+      by (Ok _) e (x, d, w) =
           ⊎_elim
           (λ (z : (checked (numbers x) (listing_lengths x)).number ≡ 0). reviewable x (record { denotes = d; within = w; keeps = kept (numbers x) (listing_lengths x) (passes_zero (numbers x) (listing_lengths x) z) }))
           (λ (h : (checked (numbers x) (listing_lengths x)).number ≡ 3).

@@ -3,6 +3,7 @@ use mathlib.Core.Path.{◌≡◌, refl, sym, ap, ap₂, ◌∙◌, subst}
 use mathlib.Core.Logic.{◌⊎◌, inl, inr, ⊎_elim, by_cases, ◌≢◌}
 use mathlib.Core.Bool.{true, false}
 use mathlib.Core.List.{List, ◌++◌}
+use Rattle.std.specs.Prelude.{Ok, Err}
 use Prim.Native.Nat.{ℕ, ◌*◌, ◌≤◌, ◌<◌}
 use native.Mathlib.Decide.{ℕ_discrete, dec_lt}
 use native.Mathlib.Omega.{arith}
@@ -15,8 +16,8 @@ use Rattle.verdicts.specs.declared.Told.{Told}
 use Rattle.verdicts.proofs.Numbers.{pairs_fill, refusal_unfilled, unread_unfilled, no_pairs}
 use Rattle.relation.specs.Table.{words, related}
 use Rattle.relation.proofs.Truth.{clashing, split}
-use Rattle.notation.specs.declared.reading.Reading.{Reading}
-use Rattle.notation.specs.declared.reading.Reading.TheVariants.{Unfit, Over, Accepted}
+use Rattle.notation.specs.declared.reading.Unread.TheVariants.{Unfit, Over}
+use Rattle.notation.specs.Reading.{Reading}
 use Rattle.replay.specs.Writer.{schedule}
 use Rattle.steps.specs.Going.{played}
 use Rattle.steps.specs.Ending.{judged}
@@ -95,9 +96,9 @@ module _ (text : List ℕ) where
 
   -- a text that is told 10 or 11 is read
   by_reading : (r : Reading) → taken text ≡ r → ((read_as text).number ≡ 0) ⊎ (is_unread (read_as text).number ≡ true)
-  by_reading (Unfit p) e = inr (ap (λ (t : Told). is_unread t.number) (read_told text e))
-  by_reading Over e = inr (ap (λ (t : Told). is_unread t.number) (read_told text e))
-  by_reading (Accepted m t) e = inl (ap (λ (t : Told). t.number) (read_told text e))
+  by_reading (Err (Unfit p)) e = inr (ap (λ (t : Told). is_unread t.number) (read_told text e))
+  by_reading (Err Over) e = inr (ap (λ (t : Told). is_unread t.number) (read_told text e))
+  by_reading (Ok s) e = inl (ap (λ (t : Told). t.number) (read_told text e))
 
   not_read : (read_as text).number ≢ 0 → of_text text ≡ bare (read_as text)
   unfolding of_text

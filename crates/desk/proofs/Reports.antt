@@ -3,6 +3,7 @@ use mathlib.Core.Path.{◌≡◌, refl, sym, ◌∙◌}
 use mathlib.Core.Bool.{Bool, true, false, cond}
 use mathlib.Core.Logic.{by_cases}
 use mathlib.Core.List.{List, []}
+use Rattle.std.specs.Prelude.{Ok, Err}
 use Prim.Native.Nat.{ℕ, zero, suc, ◌*◌, ◌≤◌, ◌<◌}
 use native.Mathlib.Omega.{arith}
 use native.Mathlib.Decide.{dec_lt}
@@ -12,9 +13,8 @@ use Rattle.tables.specs.Limits.{most_rows, most_threads}
 use Rattle.verdicts.specs.Numbers.{fills}
 use Rattle.verdicts.specs.declared.Told.{Told}
 use Rattle.verdicts.proofs.Numbers.{verdict_small}
-use Rattle.notation.specs.declared.reading.Reading.{Reading}
-use Rattle.notation.specs.declared.reading.Reading.TheVariants.{Unfit, Over, Accepted}
-use Rattle.notation.specs.Reading.{most_bytes, answered, row_numbers, thread_lengths}
+use Rattle.notation.specs.declared.reading.Unread.TheVariants.{Unfit, Over}
+use Rattle.notation.specs.Reading.{Reading, most_bytes, answered, row_numbers, thread_lengths}
 use Rattle.notation.proofs.Readings.{Stands, reads_means}
 use Rattle.relation.specs.Table.{words}
 use Rattle.printing.specs.declared.Printer.{Printer}
@@ -83,9 +83,9 @@ module _ (commands lengths : List ℕ) where
 -- what a reading refuses
 few_reading : (text : List ℕ) (r : Reading) → Stands text (most_rows * 3) most_threads r → Few (bare (answered r).told)
 unfolding most_bytes
-few_reading text (Unfit p) (b, i, _) = few_bare _ (omega arith) (omega arith) (omega arith)
-few_reading text Over _ = few_bare _ (omega arith) (omega arith) (omega arith)
-few_reading text (Accepted m t) _ = few_bare _ (omega arith) (omega arith) (omega arith)
+few_reading text (Err (Unfit p)) (b, i, _) = few_bare _ (omega arith) (omega arith) (omega arith)
+few_reading text (Err Over) _ = few_bare _ (omega arith) (omega arith) (omega arith)
+few_reading text (Ok s) _ = few_bare _ (omega arith) (omega arith) (omega arith)
 
 few_text : (text : List ℕ) → Few (of_text text)
 unfolding of_text

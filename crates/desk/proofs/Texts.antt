@@ -2,6 +2,7 @@
 use mathlib.Core.Path.{refl, ◌≡◌, sym, ap, ◌∙◌, subst}
 use mathlib.Core.Logic.{◌≢◌}
 use mathlib.Core.List.{List, []}
+use Rattle.std.specs.Prelude.{Ok, Err}
 use Prim.Native.Nat.{ℕ, ◌*◌, ◌≤◌}
 use native.Mathlib.Omega.{arith}
 use lib.ListN.{length, take, drop, length-append, length-map}
@@ -10,10 +11,10 @@ use borrow.Author.Tests.{eq-eqb, ne_eqb}
 use Rattle.tables.specs.Limits.{most_rows, most_threads}
 use Rattle.verdicts.specs.declared.Told.{Told}
 use Rattle.spelling.specs.Machine.{flat, Outcome}
-use Rattle.notation.specs.declared.reading.Reading.{Reading}
-use Rattle.notation.specs.declared.reading.Reading.TheVariants.{Unfit, Over, Accepted}
+use Rattle.notation.specs.declared.scan.Sizes.{Sizes}
+use Rattle.notation.specs.declared.reading.Unread.TheVariants.{Unfit, Over}
 use Rattle.grammar.specs.Grammar.{Command, all_commands, threads, listing_rows, listing_lengths}
-use Rattle.notation.specs.Reading.{row_numbers, thread_lengths, Answer, answered}
+use Rattle.notation.specs.Reading.{Reading, sizes, row_numbers, thread_lengths, Answer, answered}
 use Rattle.notation.specs.Promise.{Read}
 use Rattle.notation.proofs.Readings.{denoted_found}
 use Rattle.notation.proofs.Tabled.{listing_long}
@@ -23,17 +24,17 @@ use Rattle.report.specs.declared.Conclusion.{Conclusion}
 use Rattle.desk.specs.Conclusion.{of_tables, read_as, of_text, bare}
 use Rattle.desk.specs.Needs.{FilledRooms, JudgesTables, Concludes}
 
-not_accepted : (r : Reading) → ((m t : ℕ) → r ≡ Accepted m t → ⊥) → (answered r).told.number ≢ 0
-not_accepted (Unfit p) h = λ e. omega arith
-not_accepted Over h = λ e. omega arith
-not_accepted (Accepted m t) h = absurd (h m t refl)
+not_accepted : (r : Reading) → ((s : Sizes) → r ≡ Ok s → ⊥) → (answered r).told.number ≢ 0
+not_accepted (Err (Unfit p)) h = λ e. omega arith
+not_accepted (Err Over) h = λ e. omega arith
+not_accepted (Ok s) h = absurd (h s refl)
 
 module _ {text commands lengths commands' lengths' : List ℕ} {r : Reading} (reads : Read text commands lengths commands' lengths' r)
     (wide : length commands ≡ most_rows * 3) (high : length lengths ≡ most_threads) where
   told_as : (answered r).told ≡ read_as text
   told_as = ap (λ (a : Answer). a.told) reads.answers ∙ rw (wide, high)
 
-  pub refused_text : ((m t : ℕ) → r ≡ Accepted m t → ⊥) → {t : Told} → t ≡ (answered r).told → {s : Sheet} → s ≡ sheet_of []
+  pub refused_text : ((s : Sizes) → r ≡ Ok s → ⊥) → {t : Told} → t ≡ (answered r).told → {s : Sheet} → s ≡ sheet_of []
       → {relation generations : List ℕ}
       → Concludes text relation generations (record { conclusion = record { told = t; sheet = s }; numbers = 0; threads = 0 }) commands' lengths' relation generations
   unfolding of_text
@@ -50,14 +51,20 @@ module _ {text commands lengths commands' lengths' : List ℕ} {r : Reading} (re
         holds = λ e. absurd (n e);
       }
 
-  module _ {m t : ℕ} (is : r ≡ Accepted m t) where
+  module _ {y : Sizes} (is : r ≡ Ok y) where
+    abbrev m : ℕ
+    m = y.commands
+
+    abbrev t : ℕ
+    t = y.threads
+
     -- the program's tables stand first in the rooms
     stand : (take (m * 3) commands' ≡ row_numbers text) × (take t lengths' ≡ thread_lengths text) × (m * 3 ≤ length commands') × (t ≤ length lengths') × (m ≤ most_rows)
     stand =
-        let (x, d, w) = reads.by_grammar.accepted m t is in
+        let (x, d, w) = reads.by_grammar.accepted y is in
         let h = reads.by_grammar.accepts x d w in
         let f = denoted_found text x d in
-        let q : Accepted (length (all_commands (threads x))) (length (threads x)) ≡ Accepted m t = sym h.many ∙ is in
+        let q : Ok (sizes (length (all_commands (threads x))) (length (threads x))) ≡ Ok y = sym h.many ∙ is in
         let i : length (all_commands (threads x)) ≡ m = cc in
         let j : length (threads x) ≡ t = cc in
         let a : row_numbers text ≡ flat (listing_rows x) = ap (λ (o : Outcome). flat o.rows) f in

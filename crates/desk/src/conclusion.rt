@@ -1,7 +1,7 @@
 // What the review of a text tells: the text read, a schedule written, and that judged.
 ghost use Rattle.desk.specs.Needs.{FullRooms, FullTables, JudgesTables, Concludes};
 
-use notation::{Reading, read};
+use notation::{read, told};
 use replay::write_schedule;
 use report::Conclusion;
 use review::review;
@@ -62,21 +62,27 @@ pub(crate) fn conclude(
         result commands.new lengths.new relation.new generations.new }
 {
     let reading = read(text, commands, lengths);
-    let Reading::Accepted(m, t) = reading else {
+    let Ok(sizes) = reading else {
         return Concluded {
             conclusion: Conclusion {
-                told: reading.told(),
+                told: told(reading),
                 sheet: Sheet::empty(),
             },
             numbers: 0,
             threads: 0,
         };
     };
-    let numbers = m * 3;
-    let conclusion = judge_tables(&commands[..numbers], &lengths[..t], relation, generations);
+    let numbers = sizes.commands * 3;
+    let threads = sizes.threads;
+    let conclusion = judge_tables(
+        &commands[..numbers],
+        &lengths[..threads],
+        relation,
+        generations,
+    );
     Concluded {
         conclusion,
         numbers,
-        threads: t,
+        threads,
     }
 }

@@ -12,10 +12,10 @@ use Rattle.rules.specs.Rules.{checked}
 use Rattle.verdicts.specs.Verdicts.{numbered}
 use Rattle.verdicts.specs.declared.Told.{Told}
 use Rattle.grammar.specs.Grammar.{all_commands, threads}
-use Rattle.notation.specs.Reading.{most_bytes, answered, rest_at}
+use Rattle.notation.specs.Reading.{most_bytes, Reading, answered, rest_at}
 use Rattle.notation.specs.Promise.{Read}
-use Rattle.notation.specs.declared.reading.Reading.{Reading}
-use Rattle.notation.specs.declared.reading.Reading.TheVariants.{Unfit, Over, Accepted}
+use Rattle.std.specs.Prelude.{Ok, Err}
+use Rattle.notation.specs.declared.reading.Unread.TheVariants.{Unfit, Over}
 use Rattle.rooms.specs.Short.{room_of, first_short}
 use Rattle.rooms.proofs.Rooms.{first_either, none_either}
 use Rattle.replay.specs.Writer.{writer_rooms, unwritten}
@@ -83,22 +83,22 @@ module _ {commands lengths room room' : List ℕ} {r : Written} (W : WritesSched
 module _ {text commands lengths commands' lengths' : List ℕ} where
   pub reading_counted : (r : Reading) → Read text commands lengths commands' lengths' r → Counted (answered r).told (answered r).command_count (answered r).thread_count
   unfolding most_bytes most_rows most_threads
-  reading_counted (Unfit p) R =
+  reading_counted (Err (Unfit p)) R =
       let (h, i, k) = R.by_grammar.refuses p refl in
       record { place = omega arith; also = omega arith; third = omega arith; fourth = omega arith }
-  reading_counted Over R = record { place = omega arith; also = omega arith; third = omega arith; fourth = omega arith }
-  reading_counted (Accepted m t) R =
-      let (x, d, w) = R.by_grammar.accepted m t refl in
+  reading_counted (Err Over) R = record { place = omega arith; also = omega arith; third = omega arith; fourth = omega arith }
+  reading_counted (Ok s) R =
+      let (x, d, w) = R.by_grammar.accepted s refl in
       let e = (R.by_grammar.accepts x d w).many in
-      let f : m ≡ length (all_commands (threads x)) = cc in
-      let g : t ≡ length (threads x) = cc in
+      let f : s.commands ≡ length (all_commands (threads x)) = cc in
+      let g : s.threads ≡ length (threads x) = cc in
       record { place = omega arith; also = omega arith; third = omega (arith, w.few_rows); fourth = omega (arith, w.few_threads) }
 
 -- the rest begins in the text, or at its end
 pub rest_in : (r : Reading) (n : ℕ) → rest_at r n ≤ n
-rest_in (Unfit p) n = omega arith
-rest_in Over n = omega arith
-rest_in (Accepted m t) n = omega arith
+rest_in (Err (Unfit p)) n = omega arith
+rest_in (Err Over) n = omega arith
+rest_in (Ok s) n = omega arith
 
 -- ---- the run of a warp
 

@@ -7,17 +7,19 @@ use lib.ListN.{length, set, take, length-drop}
 use Rattle.verdicts.specs.Verdicts.{tell, numbered}
 use Rattle.verdicts.specs.declared.Told.{Told}
 use Rattle.tables.specs.Over.{over}
-use Rattle.notation.specs.Reading.{answered, rest_at, rest_of}
+use Rattle.notation.specs.Reading.{Reading, sizes, answered, rest_at, rest_of}
 use Rattle.notation.specs.Promise.{Read}
-use Rattle.notation.specs.declared.reading.Reading.{Reading}
 use Rattle.replay.specs.Doors.{WritesSchedule}
 use Rattle.replay.specs.declared.writer.Written.{Written}
 use Rattle.evidence.specs.declared.door.Evidence.{Evidence}
 use Rattle.evidence.specs.Doors.{Evidenced}
 use Rattle.runs.specs.declared.Course.{Course}
 use Rattle.runs.specs.Run.{RunsKernel}
-use Rattle.probe.specs.declared.sizes.Sizes.{Sizes}
-use Rattle.probe.specs.Numbers.{answer_room, largest, told_numbers, pair_numbers, sizes_of_reading}
+use Rattle.std.specs.Prelude.{Ok, Err}
+use Rattle.std.specs.Result.{result_unwrap_or}
+use Rattle.notation.specs.declared.scan.Sizes.{Sizes}
+use Rattle.notation.specs.declared.reading.Unread.TheVariants.{Unfit, Over}
+use Rattle.probe.specs.Numbers.{answer_room, largest, told_numbers, pair_numbers}
 use Rattle.probe.specs.Promise.{ProbesReview, ProbesSchedule, ProbesRead, ProbesWarp}
 use Rattle.probe.proofs.Fitting.{rest_in}
 use Rattle.probe.proofs.Putting.{told_and_more, told_and_one, told_and_two}
@@ -47,6 +49,12 @@ module _ (commands lengths room answer : List ℕ) where
   schedule_told {r} h W e p =
       record { refuses = λ l. absurd (omega arith); wrote = λ _. (r, W, ap (λ (t : Told). t.number) e, p ∙ ap (λ (t : Told). over (told_numbers t r.length 0) answer) e) }
 
+-- none of either is found in a text that is refused
+pub sizes_found : (r : Reading) → result_unwrap_or r (sizes 0 0) ≡ sizes (answered r).command_count (answered r).thread_count
+sizes_found (Err (Unfit p)) = refl
+sizes_found (Err Over) = refl
+sizes_found (Ok s) = refl
+
 -- the rest of a text begins so far before its end
 pub rest_begins : (text : List ℕ) (r : Reading) (rest : List ℕ) → rest ≡ rest_of r text → (length rest ≤ length text) × (length text - length rest ≡ rest_at r (length text))
 rest_begins text r rest e =
@@ -58,7 +66,7 @@ module _ (text commands lengths answer : List ℕ) where
   read_short h = record { refuses = λ _. (refl, refl, refl, refl); read = λ l. absurd (omega arith) }
 
   pub read_told : {r : Reading} {commands' lengths' answer' rest : List ℕ} {t : Told} {f : Sizes} {n : ℕ} → answer_room ≤ length answer
-      → Read text commands lengths commands' lengths' r → t ≡ (answered r).told → f ≡ sizes_of_reading r
+      → Read text commands lengths commands' lengths' r → t ≡ (answered r).told → f ≡ sizes (answered r).command_count (answered r).thread_count
       → answer' ≡ over (told_numbers t f.commands f.threads) answer → rest ≡ rest_of r text → n ≡ min (length text - length rest) largest
       → ProbesRead text commands lengths answer commands' lengths' (set answer' 4 n) t.number
   unfolding answer_room

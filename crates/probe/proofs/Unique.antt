@@ -12,8 +12,7 @@ use Rattle.relation.specs.Table.{Related}
 use Rattle.relation.specs.Bits.{Words}
 use Rattle.relation.proofs.Rooms.{writes_one}
 use Rattle.tables.specs.Over.{over}
-use Rattle.notation.specs.Reading.{answered}
-use Rattle.notation.specs.declared.reading.Reading.{Reading}
+use Rattle.notation.specs.Reading.{Reading, answered}
 use Rattle.notation.proofs.Readings.{read_one}
 use Rattle.replay.specs.declared.writer.Written.{Written}
 use Rattle.replay.proofs.Unique.{write_one}

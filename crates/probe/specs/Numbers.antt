@@ -2,13 +2,11 @@
 use Rattle.std.specs.Prelude.{List, [], ◌∷◌, ◌++◌, ℕ, ◌/◌, ◌%◌, ◌^◌, min}
 use Rattle.verdicts.specs.Verdicts.{tell, numbered}
 use Rattle.verdicts.specs.declared.Told.{Told}
-use Rattle.notation.specs.Reading.{answered, rest_at}
-use Rattle.notation.specs.declared.reading.Reading.{Reading}
+use Rattle.notation.specs.Reading.{Reading, answered, rest_at}
 use Rattle.replay.specs.declared.writer.Written.{Written}
 use Rattle.sheet.specs.declared.Pair.{Pair}
 use Rattle.evidence.specs.declared.door.Evidence.{Evidence}
 use Rattle.runs.specs.declared.Course.{Course}
-use Rattle.probe.specs.declared.sizes.Sizes.{Sizes}
 
 -- an answer room has at least so many numbers (R84)
 unfoldable pub answer_room : ℕ
@@ -34,10 +32,6 @@ review_numbers r = told_numbers (numbered r.finding.verdict) r.finding.sheet.tot
 -- those of a written schedule: its length stands third (R84)
 abbrev pub written_numbers : Written → List ℕ
 written_numbers r = told_numbers (numbered r.verdict) r.length 0
-
--- how many commands and threads a reading found
-abbrev pub sizes_of_reading : Reading → Sizes
-sizes_of_reading r = record { commands = (answered r).command_count; threads = (answered r).thread_count }
 
 -- Those of a reading of n bytes: then commands, threads, and where the rest begins. In a text of 4 GiB or more, which is refused by 13, that is told as the largest number (R84).
 abbrev pub reading_numbers : Reading → ℕ → List ℕ

@@ -5,9 +5,8 @@ use Rattle.relation.specs.Chains.{Chain}
 use Rattle.relation.specs.Table as table
 use Rattle.relation.specs.Table.{words, Related}
 use Rattle.tables.specs.Over.{over}
-use Rattle.notation.specs.Reading.{answered}
+use Rattle.notation.specs.Reading.{Reading, answered}
 use Rattle.notation.specs.Promise.{Read}
-use Rattle.notation.specs.declared.reading.Reading.{Reading}
 use Rattle.replay.specs.Doors.{WritesSchedule}
 use Rattle.replay.specs.declared.writer.Written.{Written}
 use Rattle.review.specs.Agreement.{number}

@@ -5,16 +5,14 @@
 ghost use Rattle.probe.specs.Promise.{ProbesReview, ProbesSchedule, ProbesRead, ProbesClose, ProbesWarp};
 
 use crate::answer::{Answer, capped, put_sheet, put_told};
-use crate::sizes::sizes_of;
 use closing::close;
 use evidence::review_evidence;
-use notation::{read, rest};
+use notation::{Sizes, read, rest, told};
 use replay::write_schedule;
 use runs::run_kernel;
 use verdicts::Told;
 
 mod answer; // numbers into the answer room
-mod sizes; // how many commands and threads a reading found
 
 // The verdict's number. `answer` gets its two places, the total, how many numbers of evidence were written, and both numbers of each of the sheet's sixteen pairs.
 #[unsafe(no_mangle)]
@@ -80,8 +78,11 @@ pub extern "C" fn probe_read(
         return 14;
     }
     let reading = read(text, commands, lengths);
-    let told = reading.told();
-    let found = sizes_of(reading);
+    let told = told(reading);
+    let found = reading.unwrap_or(Sizes {
+        commands: 0,
+        threads: 0,
+    });
     put_told(answer, told, found.commands, found.threads);
     answer[4] = capped(text.len() - rest(text, reading).len());
     told.number
