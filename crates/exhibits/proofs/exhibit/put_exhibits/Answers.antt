@@ -9,17 +9,15 @@ use Rattle.exhibits.proofs.exhibit.put_exhibits.Goals as goal
 pub returns-then-not-admits : goal.returns-then-not-admits
 returns-then-not-admits c = puts_as (sym (exhibited_none _ _ _ _ (said_refused c.admits.ensures (ap not c.if-not-admits.true)) _ _)) (puts_none _)
 
-pub put_reuse-requires : goal.put_reuse-requires
-put_reuse-requires c = roomy _ _ _ _ (said_admitted c.admits.ensures (ap not c.if-not-admits.false))
+pub invariant_of-admitted : goal.invariant_of-admitted
+invariant_of-admitted c = record { roomy = roomy _ _ _ _ (said_admitted c.admits.ensures (ap not c.if-not-admits.false)) }
+
+pub invariant_of-admitted-in-11 : goal.invariant_of-admitted-in-11
+invariant_of-admitted-in-11 c = record { roomy = roomy _ _ _ _ (said_admitted c.admits.ensures (ap not c.if-not-admits.false)) }
 
 pub returns-in-10 : goal.returns-in-10
 returns-in-10 c =
     puts_as (sym (exhibited_all _ _ _ _ (said_admitted c.admits.ensures (ap not c.if-not-admits.false)) _ _ ∙ exhibits_ten _ _ _ _ _ _ c.in-10.is)) c.put_reuse.ensures
-
-pub put_races-requires : goal.put_races-requires
-put_races-requires c =
-    let s = c.args in
-    (roomy _ _ s.generations.now s.relation.now (said_admitted c.admits.ensures (ap not c.if-not-admits.false))).keeps
 
 pub returns-in-11 : goal.returns-in-11
 returns-in-11 c =
