@@ -1,12 +1,12 @@
 -- The exhibits of a verdict, by its number, where tables and rooms are admitted. Assumes nothing.
 use mathlib.Core.Path.{◌≡◌, sym, ◌∙◌}
 use mathlib.Core.Logic.{◌≢◌}
-use mathlib.Core.Bool.{Bool, true, false, not}
+use mathlib.Core.Bool.{Bool, true, false}
 use mathlib.Core.List.{List, []}
 use Prim.Native.Nat.{ℕ}
 use lib.Dec.{eqb}
 use lib.ListN.{length}
-use borrow.Author.Tests.{eq-eqb, ne_eqb, eqb-true, eqb-false, not-true, not-false}
+use borrow.Author.Tests.{eq-eqb, ne_eqb, eqb-true, eqb-false}
 use Rattle.tables.specs.Rows.{rows}
 use Rattle.relation.specs.Table.{related}
 use Rattle.sheet.specs.declared.Sheet.{Sheet}
@@ -19,11 +19,11 @@ use Rattle.exhibits.specs.Exhibits.{reuse_exhibit, race_exhibits, exhibits, exhi
 
 -- what `admits` said of the number of a refusal
 module _ {r : Bool} {x : ℕ} (A : r ≡ eqb x 0) where
-  pub said_admitted : not r ≡ false → x ≡ 0
-  said_admitted e = eqb-true x 0 (sym A ∙ not-false r e)
+  pub said_admitted : r ≡ true → x ≡ 0
+  said_admitted e = eqb-true x 0 (sym A ∙ e)
 
-  pub said_refused : not r ≡ true → x ≢ 0
-  said_refused e = eqb-false x 0 (sym A ∙ not-true r e)
+  pub said_refused : r ≡ false → x ≢ 0
+  said_refused e = eqb-false x 0 (sym A ∙ e)
 
 module _ (commands lengths generations relation : List ℕ) where
   pub exhibited_none : (review_refusal commands lengths (length relation) (length generations)).number ≢ 0 → (n : ℕ) (s : Sheet) → exhibited commands lengths generations relation n s ≡ []

@@ -15,7 +15,7 @@ use crate::shown::shown_by;
 use printing::Printer;
 use replay::write_apart;
 use rooms::admits;
-use sheet::{Pair, Sheet, kept};
+use sheet::{Sheet, kept};
 use tables::Table;
 use wording::{put_first, put_shown, put_steps};
 
@@ -37,63 +37,70 @@ fn fill_apart(
     written.length
 }
 
-// Of a race, x first.
-fn put_way(
-    out: &mut Printer<'_>,
-    commands: &[u32],
-    lengths: &[u32],
-    relation: &[u32],
-    x: usize,
-    y: usize,
-)
-    requires { Keeps commands.now lengths.now }
-    ensures { Puts out.old out.new
-        (order_exhibit commands.now lengths.now (related relation.now (rows commands.now)) x y) }
-{
-    let mut schedule = [0u32; Table::ROWS];
-    let steps = fill_apart(commands, lengths, relation, y, x, &mut schedule);
-    put_first(out, x, y);
-    put_steps(out, &schedule[..steps]);
+// Two tables that pass, with the generation of each command and what it reaches.
+#[derive(Clone, Copy)]
+struct Admitted<'a> {
+    commands: &'a [u32],
+    lengths: &'a [u32],
+    generations: &'a [u32],
+    relation: &'a [u32],
+    ghost roomy: { Roomy commands.now lengths.now generations.now relation.now },
 }
 
-// Of a reuse fault (c, d), judged against the generations offered.
-fn put_reuse(
-    out: &mut Printer<'_>,
-    commands: &[u32],
-    lengths: &[u32],
-    generations: &[u32],
-    relation: &[u32],
-    c: usize,
-    d: usize,
-)
-    requires { Roomy commands.now lengths.now generations.now relation.now }
-    ensures { Puts out.old out.new
-        (reuse_exhibit commands.now lengths.now (related relation.now (rows commands.now))
-        (number_at generations.now) (pair c d)) }
-{
-    let mut schedule = [0u32; Table::ROWS];
-    let steps = fill_apart(commands, lengths, relation, c, d, &mut schedule);
-    let shown = shown_by(commands, lengths, generations, &schedule[..steps]);
-    put_shown(out, shown);
-    put_steps(out, &schedule[..steps]);
-}
+impl Admitted<'_> {
+    // Of a race, x first.
+    fn put_way(&self, out: &mut Printer<'_>, x: usize, y: usize)
+        ensures { Puts out.old out.new (order_exhibit self.now.commands.now self.now.lengths.now
+            (related self.now.relation.now (rows self.now.commands.now)) x y) }
+    {
+        let mut schedule = [0u32; Table::ROWS];
+        let steps = fill_apart(
+            self.commands,
+            self.lengths,
+            self.relation,
+            y,
+            x,
+            &mut schedule,
+        );
+        put_first(out, x, y);
+        put_steps(out, &schedule[..steps]);
+    }
 
-// Of each pair that a sheet keeps, both ways.
-fn put_races(
-    out: &mut Printer<'_>,
-    commands: &[u32],
-    lengths: &[u32],
-    relation: &[u32],
-    sheet: Sheet,
-)
-    requires { Keeps commands.now lengths.now }
-    ensures { Puts out.old out.new
-        (race_exhibits commands.now lengths.now (related relation.now (rows commands.now)) (kept_pairs sheet)) }
-{
-    for pair in &sheet.pairs[..kept(sheet.total)] {
-        let (x, y) = (pair.first, pair.second);
-        put_way(out, commands, lengths, relation, x, y);
-        put_way(out, commands, lengths, relation, y, x);
+    // Of a reuse fault (c, d), judged against the generations.
+    fn put_reuse(&self, out: &mut Printer<'_>, c: usize, d: usize)
+        ensures { Puts out.old out.new (reuse_exhibit self.now.commands.now self.now.lengths.now
+            (related self.now.relation.now (rows self.now.commands.now))
+            (number_at self.now.generations.now) (pair c d)) }
+    {
+        let mut schedule = [0u32; Table::ROWS];
+        let steps = fill_apart(
+            self.commands,
+            self.lengths,
+            self.relation,
+            c,
+            d,
+            &mut schedule,
+        );
+        let shown = shown_by(
+            self.commands,
+            self.lengths,
+            self.generations,
+            &schedule[..steps],
+        );
+        put_shown(out, shown);
+        put_steps(out, &schedule[..steps]);
+    }
+
+    // Of each pair that a sheet keeps, both ways.
+    fn put_races(&self, out: &mut Printer<'_>, sheet: Sheet)
+        ensures { Puts out.old out.new (race_exhibits self.now.commands.now self.now.lengths.now
+            (related self.now.relation.now (rows self.now.commands.now)) (kept_pairs sheet)) }
+    {
+        for pair in &sheet.pairs[..kept(sheet.total)] {
+            let (x, y) = (pair.first, pair.second);
+            self.put_way(out, x, y);
+            self.put_way(out, y, x);
+        }
     }
 }
 
@@ -113,12 +120,18 @@ pub fn put_exhibits(
     if !admits(commands, lengths, relation.len(), generations.len()) {
         return;
     }
+    let admitted = Admitted {
+        commands,
+        lengths,
+        generations,
+        relation,
+    };
     match number {
         10 => {
-            let Pair { first, second } = sheet.pairs[0];
-            put_reuse(out, commands, lengths, generations, relation, first, second);
+            let pair = sheet.pairs[0];
+            admitted.put_reuse(out, pair.first, pair.second);
         }
-        11 => put_races(out, commands, lengths, relation, sheet),
+        11 => admitted.put_races(out, sheet),
         _ => {}
     }
 }

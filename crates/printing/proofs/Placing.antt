@@ -4,11 +4,11 @@ use mathlib.Core.Logic.{by_cases}
 use mathlib.Core.List.{List, [], ◌∷◌, ◌++◌}
 use Prim.Native.Nat.{ℕ, suc, ◌+◌, ◌≤◌, ◌<◌}
 use native.Mathlib.Decide.{dec_lt}
-use native.Mathlib.Nat.{add-zero}
+use native.Mathlib.Nat.{zero-add, add-zero}
 use native.Mathlib.Numerals.{add-one}
 use native.Mathlib.Omega.{arith}
 use lib.ListN.{length, set, take, get_or, length-append, length-set}
-use lib.Seq.{take-suc, take_all, set_out, sets, sets-eq, length-sets}
+use lib.Seq.{take-suc, set_out, sets, sets-eq, length-sets}
 use Rattle.tables.specs.Over.{over}
 use Rattle.printing.specs.declared.Printer.{Printer}
 use Rattle.printing.specs.Putting.{past, PutsBytes, Puts}
@@ -39,10 +39,7 @@ sets_on room at a b =
     ap (λ (k : ℕ). sets (sets room at a) k b) e ∙ sym (sets_append room at a b))
 
 sets_over : (w room : List ℕ) → length w ≤ length room → sets room 0 w ≡ over w room
-sets_over w room h = sets-eq w room 0 (omega arith) ∙ rw (zero_on (length w))
-  where
-    zero_on : (n : ℕ) → 0 + n ≡ n
-    zero_on n = omega arith
+sets_over w room h = sets-eq w room 0 (omega arith) ∙ rw (zero-add (length w))
 
 -- ---- puts one after another
 
@@ -56,9 +53,8 @@ puts_bytes_on {before} {at = at} {a = a} {b} p q =
 pub puts_none : (p : Printer) → Puts p p []
 puts_none p = record { puts = record { room = refl; on = omega arith }; same = refl }
 
-module _ {p q r : Printer} {a b : List ℕ} where
-  pub puts_on : Puts p q a → Puts q r b → Puts p r (a ++ b)
-  puts_on f g = record { puts = puts_bytes_on f.puts g.puts; same = g.same ∙ f.same }
+pub puts_on : {p q r : Printer} {a b : List ℕ} → Puts p q a → Puts q r b → Puts p r (a ++ b)
+puts_on f g = record { puts = puts_bytes_on f.puts g.puts; same = g.same ∙ f.same }
 
 pub puts_as : {p q : Printer} {v w : List ℕ} → v ≡ w → Puts p q v → Puts p q w
 puts_as e f = rw e at f
@@ -69,9 +65,5 @@ puts_over {p} {w = w} z f h = f.puts.room ∙ ap (λ (k : ℕ). sets p.room.now 
 
 -- ---- a list put byte by byte
 
-module _ {p q : Printer} (w : List ℕ) (i : ℕ) (f : Puts p q (take i w)) where
-  pub front_next : {r : Printer} → i < length w → Puts q r (get_or w i 0 ∷ []) → Puts p r (take (i + 1) w)
-  front_next h g = rw (add-one i, take-suc w i 0 h) (puts_on f g)
-
-  pub front_all : length w ≤ i → Puts p q w
-  front_all h = rw (take_all i w h) at f
+pub front_next : {p q r : Printer} (w : List ℕ) (i : ℕ) → Puts p q (take i w) → i < length w → Puts q r (get_or w i 0 ∷ []) → Puts p r (take (i + 1) w)
+front_next w i f h g = rw (add-one i, take-suc w i 0 h) (puts_on f g)

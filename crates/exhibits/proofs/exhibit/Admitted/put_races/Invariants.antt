@@ -4,9 +4,10 @@ use Rattle.tables.specs.Rows.{rows}
 use Rattle.relation.specs.Table.{related}
 use Rattle.exhibits.specs.Exhibits.{race_exhibits}
 use Rattle.wording.proofs.Along.{Along}
-use Rattle.exhibits.proofs.exhibit.put_races.Given as goal
+use Rattle.exhibits.proofs.exhibit.Admitted.put_races.Given as goal
 
 abbrev pub invariant-loop-pair : goal.invariant-loop-pair
 invariant-loop-pair l =
-    Along l.initial.out l.out (race_exhibits l.commands l.lengths (related l.relation (rows l.commands)) l.pair-items)
-    (race_exhibits l.commands l.lengths (related l.relation (rows l.commands)) (drop l.pair-index l.pair-items))
+    let t = l.self in
+    let ρ = related t.relation.now (rows t.commands.now) in
+    Along l.initial.out l.out (race_exhibits t.commands.now t.lengths.now ρ l.pair-items) (race_exhibits t.commands.now t.lengths.now ρ (drop l.pair-index l.pair-items))
