@@ -154,7 +154,7 @@ module _ (s : Searched) (f : Fault) (i : ℕ) where
   abbrev pub below : ℕ → List Pair
   below j = along_row (is_fault_at s f i) (pair_of f i) (min j (rows s.commands.now))
 
-  below_few : (j : ℕ) → length (below j) ≤ j
+  pub below_few : (j : ℕ) → length (below j) ≤ j
   below_few j = omega (arith, row_length found (pair_of f i) (min j (rows s.commands.now)))
 
   pub total_low : (t u : Sheet) (j : ℕ) → u ≡ add_all t (below j) → u.total ≤ t.total + j
