@@ -8,21 +8,23 @@ ghost use Rattle.sheet.specs.Sheet.{sheet_of};
 ghost use Rattle.sheet.specs.Needs.{add_all};
 ghost use Rattle.findings.specs.Needs.{row_found, all_found};
 
-use crate::lists::Listing;
+use crate::lists::{Listing, list};
 use crate::searched::Searched;
 use faults::{Fault, pair_of};
 use sheet::{Sheet, add_to};
+use tables::Table;
 
 // How many faults outer number i has. One walk for both, that adds each to the lent sheet, was tried: where there are many it took half as long again.
 fn count_row(listing: &Listing, i: usize) -> usize
     requires { i < rows listing.now.searched.commands.now }
     ensures { result ≡ length (row_found listing.now.searched listing.now.fault i) }
 {
-    let m = listing.searched.rows();
+    let searched = listing.searched;
+    let m = searched.rows();
     let mut count = 0;
     let mut j = listing.first_candidate(i);
     while j < m {
-        if listing.searched.fault_at(listing.fault, i, j) {
+        if searched.fault_at(listing.fault, i, j) {
             count += 1;
         }
         j = listing.nexts[j];
@@ -53,7 +55,15 @@ fn keep_row(listing: &Listing, i: usize, sheet: &mut Sheet)
 pub(crate) fn search(fault: Fault, searched: &Searched) -> Sheet
     ensures { result ≡ sheet_of (all_found searched.now fault) }
 {
-    let listing = Listing::new(fault, *searched);
+    let mut fronts = [Table::ROWS; Table::ROWS];
+    let mut nexts = [Table::ROWS; Table::ROWS];
+    list(fault, searched, &mut fronts, &mut nexts);
+    let listing = Listing {
+        fault,
+        searched: *searched,
+        fronts: &fronts,
+        nexts: &nexts,
+    };
     let mut found = Sheet::empty();
     for i in 0..searched.rows() {
         let n = count_row(&listing, i);
