@@ -21,17 +21,10 @@ pub none_added : (s : Sheet) (ps : List Pair) → ps ≡ [] → s ≡ add_all s 
 unfolding add_all
 none_added s ps e = rw e
 
--- one pair more, counted or added
-pub one_counted : (ps qs : List Pair) (p : Pair) {n : ℕ} → n ≡ length ps → qs ≡ ps ++ p ∷ [] → n + 1 ≡ length qs
-one_counted ps qs p e q = omega (arith, ap length q, length-append ps (p ∷ []))
-
+-- one pair more
 pub one_added : (ps qs : List Pair) (p : Pair) (s : Sheet) {t : Sheet} → t ≡ add_all s ps → qs ≡ ps ++ p ∷ [] → added t p ≡ add_all s qs
 unfolding add_all
 one_added ps qs p s e q = ap (λ (u : Sheet). added u p) e ∙ sym (add_all_append s ps (p ∷ [])) ∙ ap (add_all s) (sym q)
-
-none_left : (ps : List Pair) → length ps ≡ 0 → ps ≡ []
-none_left [] e = refl
-none_left (p ∷ ps) e = absurd (omega arith)
 
 -- ---- the rows one after the other: the sheet of all pairs so far
 
@@ -42,12 +35,12 @@ module _ (found : ℕ → ℕ → Bool) (to : ℕ → ℕ → Pair) (m : ℕ) wh
   pub all_begun : sheet_of [] ≡ sheet_of (all_rows found to m 0)
   all_begun = ap sheet_of (sym (all_none found to m))
 
-  module _ (s : Sheet) (i n : ℕ) (few : m ≤ most_rows) (low : i < m) (e : s ≡ sheet_of (all_rows found to m i)) (q : n ≡ length (row i)) where
+  module _ (s : Sheet) (i : ℕ) (few : m ≤ most_rows) (low : i < m) (e : s ≡ sheet_of (all_rows found to m i)) where
     total_is : s.total ≡ length (all_rows found to m i)
     total_is = ap (λ (u : Sheet). u.total) e ∙ sheet_total _
 
     -- no total wraps
-    pub total_few : s.total + n ≤ most_rows * most_rows
+    pub total_few : s.total + length (row i) ≤ most_rows * most_rows
     total_few =
         let a = all_length found to m i in
         let b = row_length (found i) (to i) m in
@@ -55,15 +48,7 @@ module _ (found : ℕ → ℕ → Bool) (to : ℕ → ℕ → Pair) (m : ℕ) wh
         let c : (i + 1) * m ≤ most_rows * most_rows = mul-le-mul l few in
         omega (arith, total_is, suc-mul i m, add-one i)
 
-    -- a row with no fault
-    pub row_empty : n ≡ 0 → s ≡ sheet_of (all_rows found to m (i + 1))
-    row_empty z = rw (all_next found to m i, none_left (row i) (sym q ∙ z), append-nil (all_rows found to m i)) e
-
-    -- a row whose faults are kept
-    pub row_kept : {t : Sheet} → t ≡ add_all s (row i) → t ≡ sheet_of (all_rows found to m (i + 1))
+    -- a row more
+    pub row_added : {t : Sheet} → t ≡ add_all s (row i) → t ≡ sheet_of (all_rows found to m (i + 1))
     unfolding most_rows most_counted
-    row_kept k = k ∙ rw e (add_all_from _ (row i) (omega (arith, total_few, total_is))) ∙ ap sheet_of (sym (all_next found to m i))
-
-    -- a row whose faults are only counted
-    pub row_counted : most_kept ≤ s.total → record { pairs = s.pairs; total = s.total + n } ≡ sheet_of (all_rows found to m (i + 1))
-    row_counted h = rw (all_next found to m i, ← counted_on (all_rows found to m i) (row i) (omega (arith, total_is)), e, q, sheet_total)
+    row_added k = k ∙ rw e (add_all_from _ (row i) (omega (arith, total_few, total_is))) ∙ ap sheet_of (sym (all_next found to m i))

@@ -1,7 +1,7 @@
 // The one ordered search that serves both tests: each outer number walks its list.
 #![tactic(auto, unfolding(tables::specs::Limits::most_rows))]
 
-ghost use Rattle.std.specs.Prelude.{◌≡◌, ◌*◌, ◌<◌, ◌≤◌, length};
+ghost use Rattle.std.specs.Prelude.{◌≡◌, ◌*◌, ◌<◌, ◌≤◌};
 ghost use Rattle.tables.specs.Limits.{most_rows};
 ghost use Rattle.tables.specs.Rows.{rows};
 ghost use Rattle.sheet.specs.Sheet.{sheet_of};
@@ -14,26 +14,8 @@ use faults::{Fault, pair_of};
 use sheet::{Sheet, add_to};
 use tables::Table;
 
-// How many faults outer number i has. One walk for both, that adds each to the lent sheet, was tried: where there are many it took half as long again.
-fn count_row(listing: &Listing, i: usize) -> usize
-    requires { i < rows listing.now.searched.commands.now }
-    ensures { result ≡ length (row_found listing.now.searched listing.now.fault i) }
-{
-    let searched = listing.searched;
-    let m = searched.rows();
-    let mut count = 0;
-    let mut j = listing.first_candidate(i);
-    while j < m {
-        if searched.fault_at(listing.fault, i, j) {
-            count += 1;
-        }
-        j = listing.nexts[j];
-    }
-    count
-}
-
 // The faults of outer number i, added to a sheet. A pair is made only while the sheet has room: to copy it costs more than to find the pair.
-fn keep_row(listing: &Listing, i: usize, sheet: &mut Sheet)
+fn add_row(listing: &Listing, i: usize, sheet: &mut Sheet)
     requires { (sheet.old.total ≤ most_rows * most_rows) × (i < rows listing.now.searched.commands.now) }
     ensures { sheet.new ≡ add_all sheet.old (row_found listing.now.searched listing.now.fault i) }
 {
@@ -66,14 +48,7 @@ pub(crate) fn search(fault: Fault, searched: &Searched) -> Sheet
     };
     let mut found = Sheet::empty();
     for i in 0..searched.rows() {
-        let n = count_row(&listing, i);
-        if n != 0 {
-            if found.total < Sheet::KEPT {
-                keep_row(&listing, i, &mut found);
-            } else {
-                found.total += n;
-            }
-        }
+        add_row(&listing, i, &mut found);
     }
     found
 }

@@ -7,8 +7,8 @@ use Rattle.sheet.proofs.Sheets.{added_full}
 use Rattle.faults.specs.Faults.{pair_of}
 use Rattle.findings.proofs.Searching.{none_added, one_added}
 use Rattle.findings.proofs.Listing.{below, walk_begun, walk_on, total_low}
-use Rattle.findings.proofs.search.keep_row.Goals as goal
-use Rattle.findings.proofs.search.keep_row.Goals.{then-fault_at+then-sheet-lt-KEPT, then-fault_at+else-sheet-lt-KEPT, else-fault_at}
+use Rattle.findings.proofs.search.add_row.Goals as goal
+use Rattle.findings.proofs.search.add_row.Goals.{then-fault_at+then-sheet-lt-KEPT, then-fault_at+else-sheet-lt-KEPT, else-fault_at}
 
 pub loop-j-init : goal.loop-j-init
 loop-j-init c =

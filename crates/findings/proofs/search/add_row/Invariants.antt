@@ -2,7 +2,7 @@
 use Rattle.std.proofs.Common.{◌≡◌, ◌-◌}
 use Rattle.sheet.specs.Needs.{add_all}
 use Rattle.findings.proofs.Listing.{below, OnList}
-use Rattle.findings.proofs.search.keep_row.Given as goal
+use Rattle.findings.proofs.search.add_row.Given as goal
 
 abbrev pub invariant-loop-j : goal.invariant-loop-j
 invariant-loop-j l = record {
