@@ -32,20 +32,19 @@ key_small s Race c = omega arith
 
 -- ---- the making
 
+-- rooms of the limit at each place are empty lists
+pub unlisted : (s : Searched) (k : ℕ) → k < most_rows → rows s.commands.now ≤ get_or (replicate most_rows most_rows) k 0
+unlisted s k l = rw (get_or-replicate {A = ℕ} most_rows k most_rows 0 l) s.few
+
 module _ (s : Searched) (f : Fault) where
   -- empty lists, before any command
-  pub lists_none : Lists s f (replicate most_rows most_rows) (replicate most_rows most_rows) (rows s.commands.now)
-  lists_none =
+  pub lists_none : {fronts nexts : List ℕ} → length fronts ≡ most_rows → length nexts ≡ most_rows → ((k : ℕ) → k < most_rows → rows s.commands.now ≤ get_or fronts k 0)
+      → Lists s f fronts nexts (rows s.commands.now)
+  lists_none p q e =
       record {
-        fronts_fit = length-replicate {A = ℕ} most_rows most_rows;
-        nexts_fit = length-replicate {A = ℕ} most_rows most_rows;
-        front = λ k l.
-            rw (get_or-replicate {A = ℕ} most_rows k most_rows 0 l)
-            (record {
-              from = s.few;
-              here = λ h. absurd (omega (arith, s.few));
-              none = λ j h lj _ _. absurd (omega arith);
-            });
+        fronts_fit = p;
+        nexts_fit = q;
+        front = λ k l. record { from = e k l; here = λ h. absurd (omega (arith, e k l)); none = λ j h lj _ _. absurd (omega arith) };
         next = λ d h l. absurd (omega arith);
       }
 
@@ -154,7 +153,7 @@ module _ (s : Searched) (f : Fault) (i : ℕ) where
   abbrev pub below : ℕ → List Pair
   below j = along_row (is_fault_at s f i) (pair_of f i) (min j (rows s.commands.now))
 
-  below_few : (j : ℕ) → length (below j) ≤ j
+  pub below_few : (j : ℕ) → length (below j) ≤ j
   below_few j = omega (arith, row_length found (pair_of f i) (min j (rows s.commands.now)))
 
   pub total_low : (t u : Sheet) (j : ℕ) → u ≡ add_all t (below j) → u.total ≤ t.total + j

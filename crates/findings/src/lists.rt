@@ -1,7 +1,7 @@
 // Lists of the commands that a fault can pair, so that a search walks no others.
 #![tactic(auto, unfolding(tables::specs::Limits::most_rows, tables::specs::Limits::barriers))]
 
-ghost use Rattle.std.specs.Prelude.{◌≡◌, ◌+◌, ◌<◌};
+ghost use Rattle.std.specs.Prelude.{◌≡◌, ℕ, ◌+◌, ◌<◌, ◌≤◌, get_or};
 ghost use Rattle.tables.specs.Limits.{most_rows};
 ghost use Rattle.tables.specs.Rows.{rows, name};
 ghost use Rattle.rooms.specs.Rooms.{number_at};
@@ -44,38 +44,36 @@ fn key(fault: Fault, searched: &Searched, c: usize) -> usize
     }
 }
 
-// The front of each list, and the next after each command. Where there is none stands a number past all rows, so that a walk ends by the test that it makes anyway.
-#[derive(Drop)]
+// Each command is put in front of its list, from the last to the first.
+pub(crate) fn list(
+    fault: Fault,
+    searched: &Searched,
+    fronts: &mut [usize; Table::ROWS],
+    nexts: &mut [usize; Table::ROWS],
+)
+    requires { (k : ℕ) → k < most_rows → rows searched.now.commands.now ≤ get_or fronts.old k 0 }
+    ensures { Lists searched.now fault fronts.new nexts.new 0 }
+{
+    for c in (0..searched.rows()).rev() {
+        if listed(fault, searched, c) {
+            let k = key(fault, searched, c);
+            nexts[c] = fronts[k];
+            fronts[k] = c;
+        }
+    }
+}
+
+// The lists: the front of each, and the next after each command. Where there is none stands a number past all rows, so that a walk ends by one test.
+#[derive(Clone, Copy)]
 pub(crate) struct Listing<'a> {
     pub(crate) fault: Fault,
     pub(crate) searched: Searched<'a>,
-    fronts: [usize; Table::ROWS],
-    pub(crate) nexts: [usize; Table::ROWS],
-    ghost lists: { Lists searched fault fronts nexts 0 },
+    pub(crate) fronts: &'a [usize; Table::ROWS],
+    pub(crate) nexts: &'a [usize; Table::ROWS],
+    ghost lists: { Lists searched fault fronts.now nexts.now 0 },
 }
 
-impl<'a> Listing<'a> {
-    // Each command is put in front of its list, from the last to the first.
-    pub(crate) fn new(fault: Fault, searched: Searched<'a>) -> Listing<'a>
-        ensures { (result.fault ≡ fault) × (result.searched ≡ searched.entry) }
-    {
-        let mut fronts = [Table::ROWS; Table::ROWS];
-        let mut nexts = [Table::ROWS; Table::ROWS];
-        for c in (0..searched.rows()).rev() {
-            if listed(fault, &searched, c) {
-                let k = key(fault, &searched, c);
-                nexts[c] = fronts[k];
-                fronts[k] = c;
-            }
-        }
-        Listing {
-            fault,
-            searched,
-            fronts,
-            nexts,
-        }
-    }
-
+impl Listing<'_> {
     // The first candidate of outer number i. For reuse it is the front of the list of the generation before; for races, whose pairs go upward, it is the next after i.
     pub(crate) fn first_candidate(&self, i: usize) -> usize
         requires { i < rows self.now.searched.commands.now }

@@ -8,10 +8,11 @@ ghost use Rattle.sheet.specs.Sheet.{sheet_of};
 ghost use Rattle.sheet.specs.Needs.{add_all};
 ghost use Rattle.findings.specs.Needs.{row_found, all_found};
 
-use crate::lists::Listing;
+use crate::lists::{Listing, list};
 use crate::searched::Searched;
 use faults::{Fault, pair_of};
 use sheet::{Sheet, add_to};
+use tables::Table;
 
 // The faults of outer number i, added to a sheet. A pair is made only while the sheet has room: to copy it costs more than to find the pair.
 fn add_row(listing: &Listing, i: usize, sheet: &mut Sheet)
@@ -36,7 +37,15 @@ fn add_row(listing: &Listing, i: usize, sheet: &mut Sheet)
 pub(crate) fn search(fault: Fault, searched: &Searched) -> Sheet
     ensures { result ≡ sheet_of (all_found searched.now fault) }
 {
-    let listing = Listing::new(fault, *searched);
+    let mut fronts = [Table::ROWS; Table::ROWS];
+    let mut nexts = [Table::ROWS; Table::ROWS];
+    list(fault, searched, &mut fronts, &mut nexts);
+    let listing = Listing {
+        fault,
+        searched: *searched,
+        fronts: &fronts,
+        nexts: &nexts,
+    };
     let mut found = Sheet::empty();
     for i in 0..searched.rows() {
         add_row(&listing, i, &mut found);

@@ -1,50 +1,58 @@
 // The edges of happens-before over offered generations.
+#![tactic(auto, unfolding(tables::specs::Limits::most_rows))]
+
 ghost use Rattle.std.specs.Prelude.{◌≡◌, ◌≤◌, ◌<◌, length};
 ghost use Rattle.tables.specs.Limits.{most_rows};
 ghost use Rattle.tables.specs.Rows.{rows};
 ghost use Rattle.rooms.specs.Rooms.{number_at};
-ghost use Rattle.rooms.specs.Needs.{TwoCommands};
 ghost use Rattle.happens.specs.HappensBefore.{meets};
-ghost use Rattle.happens.specs.Needs.{does_meet_row};
-ghost use Rattle.happens.specs.Needs.{follows};
+ghost use Rattle.happens.specs.Needs.{does_meet_row, follows};
 
 use tables::{Table, is_first, same_name};
 
-// Does i register where and when j syncs: at the same barrier, in the same generation?
-fn meets(commands: &[u32], generations: &[u32], i: usize, j: usize) -> bool
-    requires { TwoCommands commands.now generations.now i j }
-    ensures { result ≡ meets commands.now (number_at generations.now) i j }
-{
-    let registers = Table::ARRIVE <= commands[i * 3];
-    let syncs = commands[j * 3] == Table::SYNC;
-    let same_barrier = same_name(commands, i, j);
-    let same_generation = generations[i] == generations[j];
-    registers & syncs & same_barrier & same_generation
+// Commands, the generations that are offered for them, and the heads of the rows.
+pub(crate) struct Offered<'a> {
+    pub(crate) commands: &'a [u32],
+    pub(crate) generations: &'a [u32],
+    pub(crate) heads: &'a [usize; Table::ROWS],
+    ghost few: { rows commands.now ≤ most_rows },
+    ghost whole: { rows commands.now ≤ length generations.now },
 }
 
-// The same of any two numbers: those that are no rows do not meet.
-pub(crate) fn meets_row(commands: &[u32], generations: &[u32], i: usize, j: usize) -> bool
-    requires { rows commands.now ≤ length generations.now }
-    ensures { result ≡ does_meet_row commands.now generations.now i j }
-{
-    let m = commands.len() / 3;
-    if m <= i {
-        return false;
+impl Offered<'_> {
+    // So many commands there are.
+    pub(crate) fn rows(&self) -> usize
+        ensures { result ≡ rows self.now.commands.now }
+    {
+        self.commands.len() / 3
     }
-    if m <= j {
-        return false;
-    }
-    meets(commands, generations, i, j)
-}
 
-// Is the row after c there, and of c's thread?
-pub(crate) fn follows(heads: &[usize; Table::ROWS], m: usize, c: usize) -> bool
-    requires { (c < m) × (m ≤ most_rows) }
-    ensures { result ≡ follows heads.now m c }
-{
-    let next = c + 1;
-    if next < m {
-        return !is_first(heads, next);
+    // Does i register where and when j syncs: at the same barrier, in the same generation?
+    fn meets(&self, i: usize, j: usize) -> bool
+        requires { (i < rows self.now.commands.now) × (j < rows self.now.commands.now) }
+        ensures { result ≡ meets self.now.commands.now (number_at self.now.generations.now) i j }
+    {
+        let registers = Table::ARRIVE <= self.commands[i * 3];
+        let syncs = self.commands[j * 3] == Table::SYNC;
+        let same_barrier = same_name(self.commands, i, j);
+        let same_generation = self.generations[i] == self.generations[j];
+        registers & syncs & same_barrier & same_generation
     }
-    false
+
+    // The same of any two numbers: those that are no rows do not meet.
+    pub(crate) fn meets_row(&self, i: usize, j: usize) -> bool
+        ensures { result ≡ does_meet_row self.now.commands.now self.now.generations.now i j }
+    {
+        let m = self.rows();
+        i < m && j < m && self.meets(i, j)
+    }
+
+    // Is the row after c there, and of c's thread?
+    pub(crate) fn follows(&self, c: usize) -> bool
+        requires { c < rows self.now.commands.now }
+        ensures { result ≡ follows self.now.heads.now (rows self.now.commands.now) c }
+    {
+        let next = c + 1;
+        next < self.rows() && !is_first(self.heads, next)
+    }
 }

@@ -1,90 +1,84 @@
 // The pairs that happens-before is made of, in a list: for each command its thread's next, and its leader both ways.
-ghost use Rattle.std.specs.Prelude.{◌≡◌, true, ◌+◌, ◌*◌, ◌≤◌, ◌<◌, ◌^◌, length};
+#![tactic(auto, unfolding(tables::specs::Limits::most_rows))]
+
+ghost use Rattle.std.specs.Prelude.{◌≡◌, ◌+◌, ◌*◌, ◌≤◌, ◌<◌, take};
 ghost use Rattle.tables.specs.Limits.{most_rows};
 ghost use Rattle.tables.specs.Rows.{rows};
-ghost use Rattle.rooms.specs.Needs.{OneCommand};
 ghost use Rattle.happens.specs.Needs.{Draws, DrawsBelow, Adds, OnePair};
 
-use crate::edges::{follows, meets_row};
+use crate::edges::Offered;
 use crate::leaders::{SEATS, leader};
 use tables::{Table, is_first};
 
-// Two numbers for a pair, and three pairs for a command.
-pub(crate) const NUMBERS: usize = 6 * Table::ROWS;
+// Two numbers for a pair, as `put_reach` takes them, with how many pairs there are: no heap, so the room is that of three pairs for each command. Beside them are the parts, which end before a pair that they tell.
+pub(crate) struct Listed {
+    pub(crate) numbers: [u32; 6 * Table::ROWS],
+    pub(crate) count: usize,
+    pub(crate) parts: [u32; Table::THREADS],
+    pub(crate) ended: usize,
+    ghost fits: { count ≤ 3 * most_rows },
+}
 
-// The pair (i, k) is put after n others, if a test found it. How many there are then.
-fn put_pair(pairs: &mut [u32], n: usize, found: bool, i: usize, k: usize) -> usize
-    requires { (n * 2 + 2 ≤ length pairs.old) × (found ≡ true → (i < most_rows) × (k < most_rows)) }
-    ensures { Adds 1 (OnePair found i k) pairs.old pairs.new n result }
-{
-    if !found {
-        return n;
+impl Listed {
+    // The pair (i, k) is put after the others.
+    fn push(&mut self, i: usize, k: usize)
+        requires { (self.old.count < 3 * most_rows) × (i < most_rows) × (k < most_rows) }
+        ensures { Adds 1 (OnePair i k) self.old.numbers self.new.numbers
+            self.old.count self.new.count }
+    {
+        let at = self.count * 2;
+        self.numbers[at] = i as u32;
+        self.numbers[at + 1] = k as u32;
+        self.count += 1;
     }
-    let at = n * 2;
-    pairs[at] = i as u32;
-    pairs[at + 1] = k as u32;
-    n + 1
+
+    // Where a thread begins, a part of the list ends. A hint for the order of sweeps, of which nothing is promised.
+    fn end_part(&mut self)
+        ensures { (self.new.numbers ≡ self.old.numbers) × (self.new.count ≡ self.old.count) }
+    {
+        if self.ended < Table::THREADS {
+            self.parts[self.ended] = self.count as u32;
+            self.ended += 1;
+        }
+    }
 }
 
 // The pairs of command c. A sweep goes from the last pair on, so that the next command, which stands last, is joined first.
-fn put_command(
-    commands: &[u32],
-    generations: &[u32],
-    heads: &[usize; Table::ROWS],
-    leaders: &[u16; SEATS],
-    pairs: &mut [u32],
-    n: usize,
-    c: usize,
-) -> usize
-    requires { (rows commands.now ≤ most_rows) × (n * 2 + 6 ≤ length pairs.old) × OneCommand commands.now generations.now c }
-    ensures { Adds 3 (Draws commands.now generations.now heads.now leaders.now c)
-        pairs.old pairs.new n result }
+fn put_command(offered: &Offered, leaders: &[u16; SEATS], c: usize, listed: &mut Listed)
+    requires { (listed.old.count + 3 ≤ 3 * most_rows) × (c < rows offered.now.commands.now) }
+    ensures { Adds 3 (Draws offered.now.commands.now offered.now.generations.now
+        offered.now.heads.now leaders.now c)
+        listed.old.numbers listed.new.numbers listed.old.count listed.new.count }
 {
-    let l = leader(commands, generations, leaders, c);
-    let from = put_pair(pairs, n, meets_row(commands, generations, l, c), l, c);
-    let to = put_pair(pairs, from, meets_row(commands, generations, c, l), c, l);
-    put_pair(pairs, to, follows(heads, commands.len() / 3, c), c, c + 1)
+    if let Some(l) = leader(offered, leaders, c) {
+        if offered.meets_row(l, c) {
+            listed.push(l, c);
+        }
+        listed.push(c, l);
+    }
+    if offered.follows(c) {
+        listed.push(c, c + 1);
+    }
 }
 
-// Where a thread begins, a part of the list ends. A hint for the order of sweeps, of which nothing is promised.
-fn put_part(parts: &mut [u32], p: usize, n: usize, begins: bool) -> usize
-    requires { (p < length parts.old) × (n < 2 ^ 32) }
-    ensures { result < length parts.old }
+// The pairs of all commands.
+pub(crate) fn put_pairs(offered: &Offered, leaders: &[u16; SEATS]) -> Listed
+    ensures { Adds (3 * rows offered.now.commands.now)
+        (DrawsBelow offered.now.commands.now offered.now.generations.now
+        offered.now.heads.now leaders.now (rows offered.now.commands.now))
+        result.numbers result.numbers 0 result.count }
 {
-    if !begins {
-        return p;
+    let mut listed = Listed {
+        numbers: [0; 6 * Table::ROWS],
+        count: 0,
+        parts: [0; Table::THREADS],
+        ended: 0,
+    };
+    for c in 0..offered.rows() {
+        if is_first(offered.heads, c) {
+            listed.end_part();
+        }
+        put_command(offered, leaders, c, &mut listed);
     }
-    let end = parts.len();
-    parts[p] = n as u32;
-    if p + 1 < end {
-        return p + 1;
-    }
-    p
-}
-
-// The pairs of all commands, and how many there are.
-pub(crate) fn put_pairs(
-    commands: &[u32],
-    generations: &[u32],
-    heads: &[usize; Table::ROWS],
-    leaders: &[u16; SEATS],
-    pairs: &mut [u32],
-    parts: &mut [u32],
-) -> usize
-    requires { (rows commands.now ≤ most_rows) × (rows commands.now ≤ length generations.now)
-        × (rows commands.now * 6 ≤ length pairs.old) × (0 < length parts.old) }
-    ensures { Adds (3 * rows commands.now)
-        (DrawsBelow commands.now generations.now heads.now leaders.now (rows commands.now))
-        pairs.old pairs.new 0 result }
-{
-    let m = commands.len() / 3;
-    let mut n = 0;
-    let mut p = 0;
-    let mut c = 0;
-    while c < m {
-        p = put_part(parts, p, n, is_first(heads, c));
-        n = put_command(commands, generations, heads, leaders, pairs, n, c);
-        c += 1;
-    }
-    n
+    listed
 }

@@ -16,7 +16,7 @@ returns-in-Reuse c =
     let a = c.args.self.now in
     let e = c.in-Reuse.is in
     let k = c.barrier_list in
-    rw e (candidate (subst (λ (n : ℕ). Next a.searched Reuse n 0 (get_or a.fronts k.result 0)) k.ensures.0 (rw e at (a.lists.front k.result k.ensures.1))))
+    rw e (candidate (subst (λ (n : ℕ). Next a.searched Reuse n 0 (get_or a.fronts.now k.result 0)) k.ensures.0 (rw e at (a.lists.front k.result k.ensures.1))))
 
 pub returns-in-Race : goal.returns-in-Race
 returns-in-Race c =
