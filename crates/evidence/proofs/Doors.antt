@@ -10,15 +10,19 @@ use lib.Seq.{take_at}
 use borrow.Author.Tests.{eq-eqb, ne_eqb}
 use Rattle.tables.specs.Rows.{rows}
 use Rattle.rules.specs.Rules.{checked}
-use Rattle.verdicts.specs.Verdicts.{tell, numbered}
+use Rattle.verdicts.specs.Verdicts.{tell, refused, numbered}
 use Rattle.verdicts.specs.declared.Told.{Told}
+use Rattle.verdicts.specs.declared.Refusal.{Refusal}
 use Rattle.verdicts.specs.declared.Verdict.{Verdict}
+use Rattle.verdicts.specs.declared.Verdict.TheVariants.{Refused}
+use Rattle.verdicts.proofs.Verdicts.{refused_some}
 use Rattle.relation.specs.Table.{related}
 use Rattle.sheet.specs.Sheet.{pair, sheet_of, kept_pairs, first_kept}
 use Rattle.findings.specs.declared.finding.Finding.{Finding}
 use Rattle.steps.specs.Writing.{FilledBy}
 use Rattle.verdicts.specs.FirstTold.{or_else}
-use Rattle.verdicts.proofs.FirstTold.{or_either, or_zero, or_assoc, said_first, said_second}
+use Rattle.verdicts.proofs.FirstTold.{or_either, or_zero, or_assoc, or_refused, or_passed}
+use Rattle.rooms.specs.declared.short.Room.{Room}
 use Rattle.rooms.specs.Short.{room_of, first_short}
 use Rattle.rooms.specs.Refusals.{review_rooms, review_refusal}
 use Rattle.rooms.proofs.Rooms.{all_long, first_either, none_either, then_short}
@@ -83,17 +87,15 @@ module _ {commands lengths σ relation generations : List ℕ} {f : Finding} {re
 -- what `show` left, over the relation room
 pub shown_holds : {commands lengths σ relation generations room : List ℕ} {f : Finding} {relation' generations' room' : List ℕ} {n : ℕ}
     → (review_refusal commands lengths (length relation) (length generations)).number ≡ 0 → Reviewed commands lengths σ relation generations f relation' generations'
-    → {t : Told} → t ≡ numbered f.verdict → FilledBy (evidence_of commands lengths (related relation' (rows commands)) t.number f.sheet) room room' n
+    → FilledBy (evidence_of commands lengths (related relation' (rows commands)) (number f) f.sheet) room room' n
     → HoldsEvidence commands lengths σ room (record { finding = f; entries = n }) room'
-shown_holds {commands} {lengths} {room = room} {f = f} {relation' = relation'} {room' = room'} {n = n} pass R e F =
-    holds R pass
-    (subst (λ (τ : List ℕ). FilledBy τ room room' n)
-    (ap (λ (t : Told). evidence_of commands lengths (related relation' (rows commands)) t.number f.sheet) e ∙ evidence_is R pass) F)
+shown_holds {room = room} {room' = room'} {n = n} pass R F =
+    holds R pass (subst (λ (τ : List ℕ). FilledBy τ room room' n) (evidence_is R pass) F)
 
 -- ---- refusals
 
 module _ (commands lengths : List ℕ) (relation generations given : ℕ) where
-  abbrev lent : List ℕ
+  abbrev lent : Room
   lent = room_of 4 (evidence_room (rows commands)) given
 
   -- what is refused without evidence, and then the evidence room
@@ -103,13 +105,11 @@ module _ (commands lengths : List ℕ) (relation generations given : ℕ) where
       or_assoc (checked commands lengths) (first_short (review_rooms (rows commands) relation generations)) (first_short (lent ∷ []))
       ∙ ap (or_else (checked commands lengths)) (sym (then_short (review_rooms (rows commands) relation generations) (lent ∷ [])))
 
-  -- v is what is refused without evidence
-  module _ (v : Verdict) {told : Told} (is : numbered v ≡ review_refusal commands lengths relation generations) (said : told ≡ numbered v) where
-    pub showing_first : told.number ≢ 0 → numbered v ≡ evidence_refusal commands lengths relation generations given
-    showing_first n = said_first v said (first_short (lent ∷ [])) n ∙ ap (λ (t : Told). or_else t (first_short (lent ∷ []))) is ∙ showing_is
+  pub showing_first : (r : Refusal) → refused r ≡ review_refusal commands lengths relation generations → refused r ≡ evidence_refusal commands lengths relation generations given
+  showing_first r e = or_refused r e (first_short (lent ∷ [])) ∙ showing_is
 
-    pub showing_room : told.number ≡ 0 → first_short (lent ∷ []) ≡ evidence_refusal commands lengths relation generations given
-    showing_room e = said_second v said (first_short (lent ∷ [])) e ∙ ap (λ (t : Told). or_else t (first_short (lent ∷ []))) is ∙ showing_is
+  pub showing_room : tell 0 0 0 ≡ review_refusal commands lengths relation generations → first_short (lent ∷ []) ≡ evidence_refusal commands lengths relation generations given
+  showing_room e = or_passed e (first_short (lent ∷ [])) ∙ showing_is
 
   -- what holds of what is told without evidence, of 4 with digit 4, and of 0, holds of what is told
   pub showing_either : (P : Told → Type 0) → P (review_refusal commands lengths relation generations) → P (tell 4 4 0) → P (tell 0 0 0)
@@ -137,12 +137,12 @@ module _ (commands lengths σ relation generations room : List ℕ) where
   all = refusal_of commands lengths relation generations room
 
   -- refused, with nothing done
-  pub evidenced_refused : (v : Verdict) → numbered v ≡ all → (numbered v).number ≢ 0
+  pub evidenced_refused : (r : Refusal) → refused r ≡ all → {v : Verdict} → v ≡ Refused r
       → Evidenced commands lengths σ relation generations room (record { finding = record { verdict = v; sheet = sheet_of [] }; entries = 0 }) relation generations room
-  evidenced_refused v e n =
-      let m : all.number ≢ 0 = λ z. n (ap (λ (t : Told). t.number) e ∙ z) in
+  evidenced_refused r e is =
+      let m : all.number ≢ 0 = λ z. refused_some r (ap (λ (t : Told). t.number) e ∙ z) in
       record {
-        refused = λ _. (e, record { sheet = refl; entries = refl; relation_kept = refl; generations_kept = refl; room_kept = refl });
+        refused = λ _. (ap numbered is ∙ e, record { sheet = refl; entries = refl; relation_kept = refl; generations_kept = refl; room_kept = refl });
         reviewed = λ z. absurd (m z);
         holds = λ z. absurd (m z);
       }

@@ -6,7 +6,8 @@ use mathlib.Core.List.{List}
 use Prim.Native.Nat.{ℕ, ◌≤◌, min}
 use native.Mathlib.Nat.{mul-le-mul_right}
 use native.Mathlib.Omega.{arith}
-use lib.ListN.{take}
+use lib.ListN.{length, take}
+use lib.Seq.{length-take-le}
 use borrow.Author.Tests.{eq-eqb, ne_eqb}
 use Rattle.tables.specs.Rows.{rows}
 use Rattle.sheet.specs.declared.Sheet.{Sheet}
@@ -24,11 +25,12 @@ module _ {commands lengths : List ℕ} {s : Sheet} {room : List ℕ} (S : Showab
   pub show_one : FitsAt commands lengths room 0
   show_one = record { keeps = S.keeps; fits = omega (arith, S.fits) }
 
-  pub show_all : {k : ℕ} → k ≡ min s.total most_kept → FitsAll commands lengths s.pairs k room
+  pub show_all : {k : ℕ} → k ≡ min s.total most_kept → FitsAll commands lengths (take k s.pairs) room
   unfolding most_kept
   show_all {k} q =
       let l : k ≤ 16 = omega arith in
-      record { keeps = S.keeps; few = omega (arith, S.long); fits = omega (arith, S.fits, mul-le-mul_right {m = k} {n = 16} (rows commands) l) }
+      let m : k ≤ length s.pairs = omega (arith, S.long) in
+      record { keeps = S.keeps; fits = rw (length-take-le k s.pairs m) (omega (arith, S.fits, mul-le-mul_right {m = k} {n = 16} (rows commands) l)) }
 
 module _ (commands lengths : List ℕ) (ρ : ℕ → ℕ → Bool) (n : ℕ) (s : Sheet) {room room' : List ℕ} {r : ℕ} where
   pub show_ten : n ≡ 10 → PutsAt (against commands lengths ρ (first_kept s)) room room' 0 r → FilledBy (evidence_of commands lengths ρ n s) room room' r

@@ -7,18 +7,17 @@ use native.Mathlib.Nat.{mul-le-mul_right, suc-mul}
 use native.Mathlib.Numerals.{add-one}
 use native.Mathlib.Omega.{arith}
 use lib.ListN.{length, get_or, take, drop, length-append, length-drop, take-append-drop}
-use lib.Seq.{length-take-le, drop-length, drop-drop, drop-cons, drop-append-add, take_at, get_or-take}
+use lib.Seq.{drop-length, drop-drop, drop-cons, drop-append-add, take_at}
 use borrow.Rule.Slice.PartMut.{mid_of, post_of, put_mid, Post-is}
 use Rattle.tables.specs.Rows.{rows}
-use Rattle.verdicts.specs.Verdicts.{numbered}
-use Rattle.verdicts.specs.declared.Told.{Told}
+use Rattle.std.specs.Prelude.{Result, IsOk}
+use Rattle.verdicts.specs.declared.Refusal.{Refusal}
 use Rattle.sheet.specs.declared.Pair.{Pair}
 use Rattle.sheet.specs.Sheet.{pair}
-use Rattle.replay.specs.declared.writer.Written.{Written}
 use Rattle.replay.specs.Writer.{apart_from, apart_schedule}
-use Rattle.steps.specs.Writing.{picked_first}
+use Rattle.steps.specs.Writing.{picked_first, FilledBy}
 use Rattle.replay.specs.Doors.{WritesBy}
-use Rattle.replay.proofs.Refusals.{keeps_written}
+use Rattle.replay.proofs.Wrote.{written_ok}
 use Rattle.replay.proofs.Places.{schedule_by_few}
 use Rattle.evidence.specs.Evidence.{both_ways, first_first, second_first}
 use Rattle.evidence.specs.Needs.{PutsAt, FitsAt, FitsAll}
@@ -40,27 +39,25 @@ module _ (room : List ℕ) (at : ℕ) (l : at ≤ length room) where
 pub apart_few : (commands lengths : List ℕ) (ρ : ℕ → ℕ → Bool) (c d : ℕ) → length (apart_schedule commands lengths ρ c d) ≤ rows commands
 apart_few commands lengths ρ c d = schedule_by_few commands lengths (picked_first (apart_from ρ c d) lengths)
 
-module _ {σ commands lengths room : List ℕ} {at : ℕ} (short : length σ ≤ rows commands) (F : FitsAt commands lengths room at)
-    {after : List ℕ} {w : Written} (W : WritesBy σ commands lengths (mid_of at (length room - at) room) after w) where
-  zero : (numbered w.verdict).number ≡ 0
-  zero =
-      let n : rows commands ≤ length (mid_of at (length room - at) room) =
-      omega (arith, F.fits, ap length (part_is room at (omega (arith, F.fits))), length-drop at room) in
-      ap (λ (t : Told). t.number) W.verdict ∙ keeps_written commands lengths (length (mid_of at (length room - at) room)) F.keeps n
+module _ {σ commands lengths room : List ℕ} {at : ℕ} (F : FitsAt commands lengths room at) where
+  -- the part that is lent is long enough
+  pub wrote_ok : {after : List ℕ} {w : Result ℕ Refusal} → WritesBy σ commands lengths (mid_of at (length room - at) room) after w → IsOk w
+  wrote_ok {w = w} W =
+      written_ok w W F.keeps (omega (arith, F.fits, ap length (part_is room at (omega (arith, F.fits))), length-drop at room))
 
-  pub wrote_few : w.length ≤ rows commands
-  wrote_few = omega (arith, (W.wrote zero).long)
+  module _ {after : List ℕ} {n : ℕ} (E : FilledBy σ (mid_of at (length room - at) room) after n) where
+    pub wrote_few : length σ ≤ rows commands → n ≤ rows commands
+    wrote_few short = omega (arith, E.long)
 
-  pub wrote_at : PutsAt σ room (put_mid at (length room - at) room after) at (at + w.length)
-  wrote_at =
-      let e = W.wrote zero in
-      record {
-        ends = ap (λ (n : ℕ). at + n) e.long;
-        room =
-            ap₂ (λ (a b : List ℕ). take at room ++ (a ++ b)) (filled_room e) (nothing_after room at (omega (arith, F.fits)))
-            ∙ ap (λ (r : List ℕ). take at room ++ r) (append-nil (σ ++ drop w.length (mid_of at (length room - at) room)))
-            ∙ ap (λ (r : List ℕ). take at room ++ (σ ++ r)) (ap (drop w.length) (part_is room at (omega (arith, F.fits))) ∙ drop-drop w.length at room);
-      }
+    pub wrote_at : PutsAt σ room (put_mid at (length room - at) room after) at (at + n)
+    wrote_at =
+        record {
+          ends = ap (λ (n : ℕ). at + n) E.long;
+          room =
+              ap₂ (λ (a b : List ℕ). take at room ++ (a ++ b)) (filled_room E) (nothing_after room at (omega (arith, F.fits)))
+              ∙ ap (λ (r : List ℕ). take at room ++ r) (append-nil (σ ++ drop n (mid_of at (length room - at) room)))
+              ∙ ap (λ (r : List ℕ). take at room ++ (σ ++ r)) (ap (drop n) (part_is room at (omega (arith, F.fits))) ∙ drop-drop n at room);
+        }
 
 -- ---- one after the other
 
@@ -88,43 +85,44 @@ front_more {before} {room} {front} {σ} {room'} {at} {r} R Q =
 
 -- ---- both ways of each pair: after k pairs
 
-pub record Racing (commands lengths : List ℕ) (ρ : ℕ → ℕ → Bool) (pairs : List Pair) (n : ℕ) (before room : List ℕ) (at k : ℕ) : Type 0 where
-  pub all : FitsAll commands lengths pairs n before
+pub record Racing (commands lengths : List ℕ) (ρ : ℕ → ℕ → Bool) (pairs : List Pair) (before room : List ℕ) (at k : ℕ) : Type 0 where
+  pub all : FitsAll commands lengths pairs before
   pub front : List ℕ
   pub fronted : Fronted before room front at
   pub few : at ≤ k * rows commands * 2
-  pub within : k ≤ n
-  pub rest_is : both_ways commands lengths ρ (take n pairs) ≡ front ++ both_ways commands lengths ρ (drop k (take n pairs))
+  pub rest_is : both_ways commands lengths ρ pairs ≡ front ++ both_ways commands lengths ρ (drop k pairs)
 
-module _ (commands lengths : List ℕ) (ρ : ℕ → ℕ → Bool) (pairs : List Pair) (n : ℕ) (before : List ℕ) where
-  pub racing_start : FitsAll commands lengths pairs n before → Racing commands lengths ρ pairs n before before 0 0
-  racing_start F = record { all = F; front = []; fronted = front_none before; few = omega arith; within = omega arith; rest_is = refl }
+module _ (commands lengths : List ℕ) (ρ : ℕ → ℕ → Bool) (pairs : List Pair) (before : List ℕ) where
+  pub racing_start : FitsAll commands lengths pairs before → Racing commands lengths ρ pairs before before 0 0
+  racing_start F = record { all = F; front = []; fronted = front_none before; few = omega arith; rest_is = refl }
 
-  module _ {room : List ℕ} {at k : ℕ} (R : Racing commands lengths ρ pairs n before room at k) where
-    budget : k ≤ n → k * rows commands ≤ n * rows commands
-    budget l = mul-le-mul_right {m = k} {n = n} (rows commands) l
+  module _ {room : List ℕ} {at k : ℕ} (R : Racing commands lengths ρ pairs before room at k) where
+    budget : k ≤ length pairs → k * rows commands ≤ length pairs * rows commands
+    budget l = mul-le-mul_right {m = k} {n = length pairs} (rows commands) l
 
-    pub racing_long : length room ≡ length before
-    racing_long = front_long R.fronted (omega (arith, R.few, R.all.fits, budget R.within))
+    pub racing_long : k ≤ length pairs → length room ≡ length before
+    racing_long l = front_long R.fronted (omega (arith, R.few, R.all.fits, budget l))
 
-    pub racing_end : n ≤ k → PutsAt (both_ways commands lengths ρ (take n pairs)) before room 0 at
+    pub racing_end : k ≡ length pairs → PutsAt (both_ways commands lengths ρ pairs) before room 0 at
     unfolding both_ways
     racing_end l =
-        let few = length-take-le n pairs R.all.few in
-        let z : drop k (take n pairs) ≡ [] = ap (λ (i : ℕ). drop i (take n pairs)) (let e : k ≡ length (take n pairs) = omega (arith, R.within) in e) ∙ drop-length (take n pairs) in
-        let f : both_ways commands lengths ρ (take n pairs) ≡ R.front =
+        let z : drop k pairs ≡ [] = ap (λ (i : ℕ). drop i pairs) l ∙ drop-length pairs in
+        let f : both_ways commands lengths ρ pairs ≡ R.front =
         R.rest_is ∙ ap (λ (ps : List Pair). R.front ++ both_ways commands lengths ρ ps) z ∙ append-nil R.front in
         record { ends = omega (arith, ap length f, R.fronted.long); room = R.fronted.room_is ∙ ap (λ (r : List ℕ). r ++ drop at before) (sym f) }
 
-    module _ (l : k < n) where
+    module _ (l : k < length pairs) where
       abbrev p : Pair
       p = get_or pairs k (pair 0 0)
 
-      more : suc k * rows commands ≤ n * rows commands
-      more = mul-le-mul_right {m = suc k} {n = n} (rows commands) l
+      more : suc k * rows commands ≤ length pairs * rows commands
+      more = mul-le-mul_right {m = suc k} {n = length pairs} (rows commands) l
+
+      long : length room ≡ length before
+      long = racing_long (omega arith)
 
       pub racing_fits : FitsAt commands lengths room at
-      racing_fits = record { keeps = R.all.keeps; fits = omega (arith, racing_long, R.few, R.all.fits, more, suc-mul k (rows commands)) }
+      racing_fits = record { keeps = R.all.keeps; fits = omega (arith, long, R.few, R.all.fits, more, suc-mul k (rows commands)) }
 
       module _ {room₁ : List ℕ} {at₁ : ℕ} (A : PutsAt (first_first commands lengths ρ p) room room₁ at at₁) where
         half_few : at₁ ≤ at + rows commands
@@ -140,21 +138,18 @@ module _ (commands lengths : List ℕ) (ρ : ℕ → ℕ → Bool) (pairs : List
         half_fits = record { keeps = R.all.keeps; fits = omega (arith, half_long, half_few, R.few, R.all.fits, more, suc-mul k (rows commands)) }
 
         module _ {room₂ : List ℕ} {at₂ : ℕ} (B : PutsAt (second_first commands lengths ρ p) room₁ room₂ at₁ at₂) where
-          pub racing_more : Racing commands lengths ρ pairs n before room₂ at₂ (k + 1)
+          pub racing_more : Racing commands lengths ρ pairs before room₂ at₂ (k + 1)
           unfolding both_ways
           racing_more =
               let a = first_first commands lengths ρ p in
               let b = second_first commands lengths ρ p in
-              let few = length-take-le n pairs R.all.few in
-              let s : drop k (take n pairs) ≡ p ∷ drop (k + 1) (take n pairs) =
-              rw add-one (drop-cons (take n pairs) k (pair 0 0) (omega arith) ∙ ap (λ (q : Pair). q ∷ drop (suc k) (take n pairs)) (get_or-take n pairs k (pair 0 0) l)) in
-              let rest = both_ways commands lengths ρ (drop (k + 1) (take n pairs)) in
+              let s : drop k pairs ≡ p ∷ drop (k + 1) pairs = rw add-one (drop-cons pairs k (pair 0 0) l) in
+              let rest = both_ways commands lengths ρ (drop (k + 1) pairs) in
               record {
                 all = R.all;
                 front = (R.front ++ a) ++ b;
                 fronted = front_more half B;
                 few = omega (arith, half_few, R.few, B.ends, apart_few commands lengths ρ p.first p.second, suc-mul k (rows commands), ap (λ (i : ℕ). i * rows commands) (add-one k));
-                within = omega arith;
                 rest_is =
                     R.rest_is ∙ ap (λ (ps : List Pair). R.front ++ both_ways commands lengths ρ ps) s
                     ∙ sym (append_assoc R.front a (b ++ rest)) ∙ sym (append_assoc (R.front ++ a) b rest);

@@ -9,6 +9,7 @@ use Rattle.sheet.specs.declared.Pair.{Pair}
 use Rattle.sheet.specs.Sheet.{pair, sheet_of, kept_pairs}
 use Rattle.verdicts.specs.FirstTold.{or_else}
 use Rattle.steps.specs.Writing.{FilledBy}
+use Rattle.rooms.specs.declared.short.Room.{Room}
 use Rattle.rooms.specs.Short.{room_of, first_short}
 use Rattle.rooms.specs.Refusals.{review_rooms, review_refusal}
 use Rattle.review.specs.Judge.{reaches}
@@ -17,7 +18,7 @@ use Rattle.evidence.specs.declared.door.Evidence.{Evidence}
 use Rattle.evidence.specs.Evidence.{Disputes, HasBefore, evidence_room, evidence_of}
 
 -- the rooms of a review with evidence, the lowest digit first: those of a review, and 4 the evidence room (R39)
-abbrev pub evidence_rooms : (m relation_length generation_length given : ℕ) → List (List ℕ)
+abbrev pub evidence_rooms : (m relation_length generation_length given : ℕ) → List Room
 evidence_rooms m relation_length generation_length given = review_rooms m relation_length generation_length ++ room_of 4 (evidence_room m) given ∷ []
 
 -- 1 to 4, of tables and the lengths of the three rooms (R58)

@@ -30,11 +30,10 @@ pub record FitsAt (commands lengths room : List ℕ) (at : ℕ) : Type 0 where
   pub keeps : Keeps commands lengths
   pub fits : at + rows commands ≤ length room
 
--- there are n pairs, and room for two schedules of each
-pub record FitsAll (commands lengths : List ℕ) (pairs : List Pair) (n : ℕ) (room : List ℕ) : Type 0 where
+-- there is room for two schedules of each of some pairs
+pub record FitsAll (commands lengths : List ℕ) (pairs : List Pair) (room : List ℕ) : Type 0 where
   pub keeps : Keeps commands lengths
-  pub few : n ≤ length pairs
-  pub fits : n * rows commands * 2 ≤ length room
+  pub fits : length pairs * rows commands * 2 ≤ length room
 
 -- there is room for two schedules of as many pairs as a sheet keeps
 pub record Showable (commands lengths : List ℕ) (s : Sheet) (room : List ℕ) : Type 0 where

@@ -2,16 +2,16 @@
 ghost use Rattle.std.specs.Prelude.{◌≡◌};
 ghost use Rattle.steps.specs.Writing.{FilledBy};
 ghost use Rattle.evidence.specs.Needs.{evidence_in, Showable};
-ghost use Rattle.review.specs.Agreement.{Reviewed};
-ghost use Rattle.verdicts.specs.Verdicts.{numbered};
+ghost use Rattle.review.specs.Agreement.{number, Reviewed};
+ghost use Rattle.verdicts.specs.Verdicts.{told_of};
 ghost use Rattle.evidence.specs.Doors.{evidence_refusal, HoldsEvidence, Admissible, Evidenced};
 
 use crate::writing::{write_at, write_races};
 use findings::{Finding, bare};
 use review::review;
-use rooms::{refuse, short_room};
+use rooms::{Room, refuse, short_room};
 use sheet::{Sheet, kept};
-use verdicts::Verdict;
+use verdicts::{Refusal, Verdict};
 
 // What a review found, and how many entries of evidence were written.
 #[derive(Clone, Copy)]
@@ -25,46 +25,39 @@ impl Evidence {
     pub const ROOM: usize = Sheet::KEPT * 2;
 }
 
-fn nothing(finding: Finding) -> Evidence
-    ensures { result ≡ record { finding = finding; entries = 0 } }
-{
-    Evidence {
-        finding,
-        entries: 0,
-    }
-}
-
 // The schedules that show a verdict, from the front of the room; answers how many entries.
 fn show(
     commands: &[u32],
     lengths: &[u32],
     relation: &[u32],
-    number: u32,
-    sheet: Sheet,
+    finding: Finding,
     room: &mut [u32],
 ) -> usize
-    requires { Showable commands.now lengths.now sheet room.old }
-    ensures { FilledBy (evidence_in commands.now lengths.now relation.now number sheet)
+    requires { Showable commands.now lengths.now finding.sheet room.old }
+    ensures { FilledBy
+        (evidence_in commands.now lengths.now relation.now (number finding) finding.sheet)
         room.old room.new result }
 {
-    let pairs = sheet.pairs;
-    if number == 10 {
-        let pair = pairs[0];
-        return write_at(
-            commands,
-            lengths,
-            relation,
-            pair.first,
-            pair.second,
-            room,
-            0,
-        );
+    let sheet = finding.sheet;
+    match finding.verdict {
+        Verdict::Reuse(..) => {
+            let pair = sheet.pairs[0];
+            write_at(
+                commands,
+                lengths,
+                relation,
+                pair.first,
+                pair.second,
+                room,
+                0,
+            )
+        }
+        Verdict::Race(..) => {
+            let n = kept(sheet.total);
+            write_races(commands, lengths, relation, &sheet.pairs[..n], room)
+        }
+        _ => 0,
     }
-    if number == 11 {
-        let n = kept(sheet.total);
-        return write_races(commands, lengths, relation, pairs, n, room);
-    }
-    0
 }
 
 // The review, and the schedules that show verdicts 10 and 11, of tables and rooms that pass.
@@ -82,29 +75,27 @@ fn review_shown(
         × HoldsEvidence commands.now lengths.now schedule.now room.old result room.new }
 {
     let finding = review(commands, lengths, schedule, relation, generations);
-    let verdict = finding.verdict;
-    let sheet = finding.sheet;
-    let number = verdict.told().number;
-    let entries = show(commands, lengths, relation, number, sheet, room);
+    let entries = show(commands, lengths, relation, finding, room);
     Evidence { finding, entries }
 }
 
-// 1 to 4, or 0, of tables and the lengths of the three rooms.
+// 1 to 4, of tables and the lengths of the three rooms.
 fn refuse_showing(
     commands: &[u32],
     lengths: &[u32],
     wide: usize,
     high: usize,
     given: usize,
-) -> Verdict
-    ensures { numbered result ≡ evidence_refusal commands.now lengths.now wide high given }
+) -> Result<(), Refusal>
+    ensures { told_of result ≡ evidence_refusal commands.now lengths.now wide high given }
 {
-    let refusal = refuse(commands, lengths, wide, high);
-    if refusal.told().number != 0 {
-        return refusal;
-    }
+    refuse(commands, lengths, wide, high)?;
     let needed = Evidence::ROOM * (commands.len() / 3);
-    short_room(&[[4, needed, given]])
+    short_room(&[Room {
+        digit: 4,
+        needed,
+        given,
+    }])
 }
 
 // Any tables, any schedule, any rooms. All rooms are tested before one is touched.
@@ -127,8 +118,11 @@ pub fn review_evidence(
         generations.len(),
         room.len(),
     );
-    if refusal.told().number != 0 {
-        return nothing(bare(refusal));
+    if let Err(refusal) = refusal {
+        return Evidence {
+            finding: bare(refusal.into()),
+            entries: 0,
+        };
     }
     review_shown(commands, lengths, schedule, relation, generations, room)
 }

@@ -13,8 +13,9 @@ use borrow.Author.Tests.{le-ltb}
 use Rattle.tables.specs.Limits.{most_rows}
 use Rattle.tables.specs.Rows.{rows}
 use Rattle.rules.specs.Rules.{Keeps}
-use Rattle.std.specs.Prelude.{Result, Ok, Err}
+use Rattle.std.specs.Prelude.{Result, Ok, Err, IsOk}
 use Rattle.verdicts.specs.declared.Refusal.{Refusal}
+use Rattle.verdicts.proofs.Verdicts.{refused_some}
 use Rattle.verdicts.specs.declared.Told.{Told}
 use Rattle.relation.specs.Table.{words, inside, related}
 use Rattle.relation.proofs.Truth.{clashing, both, isnt}
@@ -26,7 +27,7 @@ use Rattle.steps.specs.State.{start}
 use Rattle.steps.specs.Writing.{picked_first, writes, FilledBy}
 use Rattle.replay.specs.Doors.{WritesBy, WritesSchedule, WritesApart}
 use Rattle.replay.specs.Schedules.{Complete}
-use Rattle.replay.proofs.Refusals.{unwritten_keeps}
+use Rattle.replay.proofs.Refusals.{unwritten_keeps, keeps_written}
 use Rattle.replay.proofs.Places.{stepping_few}
 use Rattle.replay.proofs.Picking.{picks_lowest, nothing_first, schedule_alike, first_alike}
 use Rattle.steps.proofs.Filled.{filled_by, filled_room}
@@ -89,3 +90,10 @@ module _ {commands lengths before after : List ℕ} where
       let q : m ≡ rows commands = omega (arith, K.few_rows) in
       schedule_alike (first_alike K (λ x lx.
       A.each x (omega (arith, K.few_rows)) ∙ ap (λ (n : ℕ). apart_from (related relation n) a d x) q ∙ few_apart relation (rows commands) c d x K.few_rows f)) commands lengths) r
+
+-- tables that pass are not refused in a room that is long enough
+pub written_ok : {σ commands lengths before after : List ℕ} (r : Result ℕ Refusal) → WritesBy σ commands lengths before after r → Keeps commands lengths → rows commands ≤ length before
+    → IsOk r
+written_ok (Ok n) W K l = refl
+written_ok {commands = commands} {lengths = lengths} {before = before} (Err r) W K l =
+    absurd (refused_some r (ap (λ (t : Told). t.number) W.refusal ∙ keeps_written commands lengths (length before) K l))

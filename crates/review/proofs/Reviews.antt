@@ -8,10 +8,14 @@ use native.Mathlib.Omega.{arith}
 use lib.ListN.{length, get_or}
 use borrow.Author.Tests.{eq-eqb}
 use Rattle.tables.specs.Rows.{rows}
-use Rattle.verdicts.specs.Verdicts.{tell, numbered}
+use Rattle.std.specs.Prelude.{Result, Ok, Err, IsOk}
+use Rattle.verdicts.specs.Verdicts.{tell, refused, numbered}
 use Rattle.verdicts.specs.Numbers.{is_refusal, is_ending, has_pairs, fills, is_verdict}
 use Rattle.verdicts.specs.declared.Told.{Told}
+use Rattle.verdicts.specs.declared.Refusal.{Refusal}
 use Rattle.verdicts.specs.declared.Verdict.{Verdict}
+use Rattle.verdicts.specs.declared.Verdict.TheVariants.{Clean, Refused}
+use Rattle.verdicts.proofs.Verdicts.{refused_some, zero_clean}
 use Rattle.verdicts.proofs.Numbers.{few_refusal, refusal_verdict, refusal_unfilled, ending_verdict, ending_unfilled, fills_verdict}
 use Rattle.relation.specs.Table.{related}
 use Rattle.relation.proofs.Truth.{clashing}
@@ -58,6 +62,13 @@ no_faults (p ∷ ps) qs f = clashing refl f
 no_faults [] (q ∷ qs) f = clashing refl f
 no_faults [] [] f = refl
 
+-- ---- happens-before, of lengths that are not refused
+
+pub happened : {commands lengths generations relation relation' : List ℕ} (h : Result (Unit {0}) Refusal) → PutsHappensBefore commands lengths generations relation h relation'
+    → (size_refusal commands (length relation) (length generations)).number ≡ 0 → IsOk h × Reached commands lengths (number_at generations) relation relation'
+happened (Ok x) O z = (refl, O.holds)
+happened (Err r) O z = absurd (refused_some r (ap (λ (t : Told). t.number) O.refusal ∙ z))
+
 -- ---- the contract
 
 module _ (commands lengths σ relation room : List ℕ) where
@@ -94,34 +105,41 @@ module _ (commands lengths σ relation room : List ℕ) where
       }
 
   -- 1 to 4
-  pub reviewed_refused : (v : Verdict) → numbered v ≡ refusal → (numbered v).number ≢ 0
+  pub reviewed_refused : (r : Refusal) → refused r ≡ refusal → {v : Verdict} → v ≡ Refused r
       → Reviewed commands lengths σ relation room (record { verdict = v; sheet = sheet_of [] }) relation room
   unfolding verdict_of
-  reviewed_refused v e n =
-      let r : is_refusal (numbered v).number ≡ true = rw e (refused_refusal commands lengths (length relation) (length room) (λ z. n (ap (λ (t : Told). t.number) e ∙ z))) in
-      unfilled v (e ∙ or_first refusal _ (λ z. n (ap (λ (t : Told). t.number) e ∙ z))) (refusal_verdict (numbered v).number r) (refusal_unfilled (numbered v).number r)
+  reviewed_refused r e {v} is =
+      let q : numbered v ≡ refusal = ap numbered is ∙ e in
+      let n : refusal.number ≢ 0 = λ z. refused_some r (ap (λ (t : Told). t.number) e ∙ z) in
+      let t : is_refusal (numbered v).number ≡ true = rw q (refused_refusal commands lengths (length relation) (length room) n) in
+      unfilled v (q ∙ or_first refusal _ n) (refusal_verdict (numbered v).number t) (refusal_unfilled (numbered v).number t)
 
   module _ (pass : refusal.number ≡ 0) where
     A : Admitted commands lengths (length relation) (length room)
     A = admitted commands lengths (length relation) (length room) pass
 
+    -- the room of the generations is as long as it was, so its length is not refused
+    pub happens : {room' relation' : List ℕ} {h : Result (Unit {0}) Refusal} → length room' ≡ length room → PutsHappensBefore commands lengths room' relation h relation' → IsOk h
+    happens {h = h} long O = (happened h O (rw long (admitted_sizes commands lengths (length relation) (length room) pass))).0
+
     -- what the judge says of tables that pass
     module _ {j : Judged} (J : Replays commands lengths σ j) where
       -- 5 to 9
-      pub reviewed_judged : (numbered j.verdict).number ≢ 0
+      pub reviewed_judged : (j.verdict ≡ Clean → ⊥)
           → Reviewed commands lengths σ relation room (record { verdict = j.verdict; sheet = sheet_of [] }) relation room
       unfolding verdict_of
-      reviewed_judged n =
+      reviewed_judged c =
           let e = J.verdict in
+          let n : (numbered j.verdict).number ≢ 0 = λ z. c (zero_clean j.verdict z) in
           let d : is_ending (numbered j.verdict).number ≡ true = rw e (judged_ending A.keeps σ) in
           unfilled j.verdict (e ∙ or_first (judged lengths (played commands lengths σ)) _ (λ z. n (ap (λ (t : Told). t.number) e ∙ z)) ∙ or_second refusal _ pass)
           (ending_verdict (numbered j.verdict).number d) (ending_unfilled (numbered j.verdict).number d n)
 
       -- 0, 10 and 11
-      module _ (zero : (numbered j.verdict).number ≡ 0) {v : Verdict} {r : Finding} {relation' room' : List ℕ} (put_in : room' ≡ put j.generations (rows commands) room)
-          (long : length room' ≡ length room) (O : PutsHappensBefore commands lengths room' relation v relation') (F : Finds commands lengths room' relation' r) where
+      module _ (zero : j.verdict ≡ Clean) {h : Result (Unit {0}) Refusal} {r : Finding} {relation' room' : List ℕ} (put_in : room' ≡ put j.generations (rows commands) room)
+          (long : length room' ≡ length room) (O : PutsHappensBefore commands lengths room' relation h relation') (F : Finds commands lengths room' relation' r) where
         clean : (judged lengths (played commands lengths σ)).number ≡ 0
-        clean = ap (λ (t : Told). t.number) (sym J.verdict) ∙ zero
+        clean = ap (λ (t : Told). t.number) (sym J.verdict ∙ ap numbered zero)
 
         is_put : room' ≡ put (played commands lengths σ).generations (rows commands) room
         is_put = put_in ∙ ap (λ (g : List ℕ). put g (rows commands) room) J.generations
@@ -142,7 +160,7 @@ module _ (commands lengths σ relation room : List ℕ) where
         again = rw long (admitted_sizes commands lengths (length relation) (length room) pass)
 
         reached : Reached commands lengths g relation relation'
-        reached = same_reached commands lengths (number_at room') g same relation relation' (O.holds (ap (λ (t : Told). t.number) O.verdict ∙ again))
+        reached = same_reached commands lengths (number_at room') g same relation relation' (happened h O again).1
 
         once_more : (size_refusal commands (length relation') (length room')).number ≡ 0
         once_more = rw reached.len again

@@ -1,10 +1,9 @@
 -- What goes into the generation room: generations as they stand. Assumes nothing.
-use mathlib.Core.Path.{◌≡◌, refl, sym, ap, ◌∙◌}
+use mathlib.Core.Path.{◌≡◌, refl, sym, ap, ap₂, ◌∙◌}
 use mathlib.Core.List.{List, [], ◌∷◌, ◌++◌}
 use Prim.Native.Nat.{ℕ, zero, suc, ◌+◌, ◌-◌, ◌≤◌, ◌<◌}
-use native.Mathlib.Numerals.{add-one}
 use native.Mathlib.Omega.{arith}
-use lib.ListN.{length, get_or, set, take, drop}
+use lib.ListN.{length, get_or, take, drop, length-append, length-drop}
 use lib.Seq.{length-take-le, get_or-take, get_or-drop, get_or-append-add}
 use Rattle.tables.specs.Over.{over}
 
@@ -12,14 +11,13 @@ use Rattle.tables.specs.Over.{over}
 abbrev pub put : List ℕ → ℕ → List ℕ → List ℕ
 put g n r = over (take n g) r
 
-put_suc : (g r : List ℕ) (n : ℕ) → n < length g → n < length r → set (put g n r) n (get_or g n 0) ≡ put g (suc n) r
-put_suc [] r n l h = absurd (omega arith)
-put_suc (x ∷ g) [] n l h = absurd (omega arith)
-put_suc (x ∷ g) (y ∷ r) zero l h = refl
-put_suc (x ∷ g) (y ∷ r) (suc n) l h = ap (λ (t : List ℕ). x ∷ t) (put_suc g r n (omega arith) (omega arith))
+-- a room into whose first n places they were copied
+module _ (g r now : List ℕ) (n : ℕ) (is : now ≡ take n g) (fits : n ≤ length g) where
+  pub put_is : now ++ drop n r ≡ put g n r
+  put_is = ap₂ (λ (a : List ℕ) (i : ℕ). a ++ drop i r) is (sym (length-take-le n g fits))
 
-pub put_more : (g r : List ℕ) (n : ℕ) → n < length g → n < length r → set (put g n r) n (get_or g n 0) ≡ put g (n + 1) r
-put_more g r n l h = rw add-one (put_suc g r n l h)
+  pub put_long : n ≤ length r → length (now ++ drop n r) ≡ length r
+  put_long l = omega (arith, length-append now (drop n r), length-drop n r, ap length is, length-take-le n g fits)
 
 -- the numbers that were put stand in front, and the room beyond is kept
 front : (l r : List ℕ) (c : ℕ) → c < length l → get_or (l ++ r) c 0 ≡ get_or l c 0

@@ -1,11 +1,11 @@
 // The review: the refusals, the replay, the rooms and the verdict.
 ghost use Rattle.review.specs.Agreement.{Reviewed};
 
-use crate::generations::put_generations;
 use findings::{Finding, bare, find_faults};
 use happens::put_happens_before;
 use replay::judge;
 use rooms::refuse;
+use verdicts::Verdict;
 
 // Any tables, any schedule, any rooms. The verdict up to 9 is found before a room is touched; only for 0, 10 and 11 are they filled.
 pub fn review(
@@ -19,17 +19,15 @@ pub fn review(
         commands.now lengths.now schedule.now relation.old generations.old
         result relation.new generations.new }
 {
-    let refusal = refuse(commands, lengths, relation.len(), generations.len());
-    if refusal.told().number != 0 {
-        return bare(refusal);
+    if let Err(refusal) = refuse(commands, lengths, relation.len(), generations.len()) {
+        return bare(refusal.into());
     }
     let judged = judge(commands, lengths, schedule);
-    let verdict = judged.verdict;
-    if verdict.told().number != 0 {
-        return bare(verdict);
-    }
-    let found = judged.generations;
-    put_generations(generations, found, commands.len() / 3);
-    put_happens_before(commands, lengths, generations, relation);
+    let Verdict::Clean = judged.verdict else {
+        return bare(judged.verdict);
+    };
+    let m = commands.len() / 3;
+    generations[..m].copy_from_slice(&judged.generations[..m]);
+    put_happens_before(commands, lengths, generations, relation).unwrap();
     find_faults(commands, lengths, generations, relation)
 }

@@ -7,4 +7,4 @@ pub show-entries-requires : goal.show-entries-requires
 show-entries-requires c = let p = c.requires in showable c.review-finding.ensures p.admitted p.fits
 
 pub returns : goal.returns
-returns c = let r = c.review-finding.ensures in (r, shown_holds c.requires.admitted r c.told-number.ensures c.show-entries.ensures)
+returns c = let r = c.review-finding.ensures in (r, shown_holds c.requires.admitted r c.show-entries.ensures)
