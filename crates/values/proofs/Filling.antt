@@ -72,14 +72,6 @@ module _ (e : List ℕ) where
             (λ (o : j ≢ i). get_or-set_other v i j r 0 o ∙ F.past j (omega arith));
       }
 
-  -- a row as the code comes to it, without operands and with them
-  module _ (i t : ℕ) (μ : Mem) (v : List ℕ) {kind x r : ℕ} (ek : SameValue kind (expr_kind e i)) (ex : x ≡ expr_x e i) where
-    pub leaf_by : {held : ℕ} → held ≡ get_or μ x 0 → ((a b : ℕ) → r ≡ value_by kind x a b held t) → r ≡ row_by e i t μ v
-    leaf_by {held} eh q = rw (← ex, ← eh) (q _ _ ∙ ek.same x (cond (ltb x i) (get_or v x 0) 0) (cond (ltb (expr_y e i) i) (get_or v (expr_y e i) 0) 0) held t)
-
-    pub pair_by : {y a b : ℕ} → y ≡ expr_y e i → a ≡ cond (ltb x i) (get_or v x 0) 0 → b ≡ cond (ltb y i) (get_or v y 0) 0 → ((x held t : ℕ) → r ≡ value_by kind x a b held t) → r ≡ row_by e i t μ v
-    pair_by {a = a} {b = b} ey ea eb q = rw (← ex, ← ey, ← ea, ← eb) (q _ _ _ ∙ ek.same x a b (get_or μ x 0) t)
-
   pub past_limit : (i t : ℕ) (μ : Mem) → most_expressions ≤ i → 0 ≡ eval (expression e i) t μ
   unfolding eval
   past_limit i t μ h = rw (le-ltb i most_expressions h)
@@ -98,11 +90,6 @@ kind_by n None e = past_kinds n (no_expression n (sym e))
 kind_by n (Some k) e = let q : n ≡ expression_number k = expression_is n k (sym e) in record { same = λ x a b h t. ap (λ (m : ℕ). value_by m x a b h t) (sym q) }
 
 module _ (k : ExpressionKind) where
-  pub is_leaf : (k ≡ Number) ⊎ ((k ≡ Cell) ⊎ (k ≡ Lane)) → expression_number k < 3
-  is_leaf (inl e) = rw e (omega arith)
-  is_leaf (inr (inl e)) = rw e (omega arith)
-  is_leaf (inr (inr e)) = rw e (omega arith)
-
   pub is_pair : (k ≡ Sum) ⊎ ((k ≡ Difference) ⊎ (k ≡ Less)) → 3 ≤ expression_number k
   is_pair (inl e) = rw e (omega arith)
   is_pair (inr (inl e)) = rw e (omega arith)

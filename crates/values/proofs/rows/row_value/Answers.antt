@@ -1,1 +1,0 @@
--- `row_value` meets its contract: a row has operands or none. Assumes nothing.
