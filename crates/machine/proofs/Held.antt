@@ -3,7 +3,7 @@ use mathlib.Core.Path.{◌≡◌, refl, sym, ap, ap₂, ◌∙◌, subst}
 use mathlib.Core.Logic.{by_cases, ◌≢◌}
 use mathlib.Core.Bool.{cond}
 use mathlib.Core.List.{List, [], ◌∷◌}
-use Prim.Native.Nat.{ℕ, zero, suc, ◌+◌, ◌-◌, ◌/◌, ◌%◌, ◌^◌, ◌≤◌, ◌<◌}
+use Prim.Native.Nat.{ℕ, zero, suc, ◌+◌, ◌*◌, ◌-◌, ◌/◌, ◌%◌, ◌^◌, ◌≤◌, ◌<◌}
 use native.Mathlib.Decide.{dec_lt}
 use native.Mathlib.Numerals.{add-one}
 use native.Mathlib.Omega.{arith}
@@ -15,7 +15,6 @@ use Rattle.warps.specs.Language.{Mem, eval}
 use Rattle.values.specs.Expressions.{expression}
 use Rattle.kernels.specs.Rows.{list_of}
 use Rattle.machine.specs.Entries.{Entry, row, again, token, again_from, tokens_from, entry_of, stack_in, from_token, pile}
-use Rattle.machine.specs.Needs.{number_of_token}
 
 -- the highest lane's value is stored
 pub stored : (μ : Mem) (e : List ℕ) (c c' y y' t t' v : ℕ) → c ≡ c' → y ≡ y' → t ≡ t' → v ≡ eval (expression e y) t μ → set μ c v ≡ set μ c' (eval (expression e y') t' μ)
@@ -58,11 +57,11 @@ pub entry_token : (e : ℕ) → tokens_from ≤ e → entry_of e ≡ token ((e -
 unfolding entry_of
 entry_token e h = rw (le-ltb e again_from (omega arith), le-ltb e tokens_from h)
 
-pub token_put : (W' W : List Entry) (e k m : ℕ) → W' ≡ entry_of e ∷ W → e ≡ number_of_token k m → k < 4 → m < 2 ^ 32 → W' ≡ token k m ∷ W
-token_put W' W e k m q p h l = q ∙ ap (λ (x : Entry). x ∷ W) (ap entry_of p ∙ entry_token (number_of_token k m) (omega arith) ∙ ap₂ token (omega arith) (omega arith))
+pub token_number : (k m : ℕ) → k < 4 → m < 2 ^ 32 → entry_of (tokens_from + 4 * m + k) ≡ token k m
+token_number k m h l = entry_token (tokens_from + 4 * m + k) (omega arith) ∙ ap₂ token (omega arith) (omega arith)
 
-pub again_put : (W' W : List Entry) (i : ℕ) → W' ≡ entry_of (again_from + i) ∷ W → i < 256 → W' ≡ again i ∷ W
-again_put W' W i q h = q ∙ ap (λ (x : Entry). x ∷ W) (entry_again (again_from + i) (omega arith) (omega arith) ∙ ap again (omega arith))
+pub again_number : (i : ℕ) → i < 256 → entry_of (again_from + i) ≡ again i
+again_number i h = entry_again (again_from + i) (omega arith) (omega arith) ∙ ap again (omega arith)
 
 -- ---- dropping statements, from the top
 module _ (a : List ℕ) (X : List Entry) (n : ℕ) (E : X ≡ from_token (stack_in a n)) where
@@ -105,16 +104,15 @@ module _ (s : List ℕ) (b n L height : ℕ) (W : List Entry) where
         let back : suc (i - 1) ≡ i = omega arith in
         P.is ∙ ap₂ (λ (k j : ℕ). pile s k j b W) shift (sym back)
 
-    pub piled_hit : n ≤ 256 → height + 256 ≤ L → list_of s (i - 1) ≡ b → Piled s b n L height W (set a d (i - 1)) (i - 1) (d + 1)
-    piled_hit l m e =
+    pub piled_hit : (a' : List ℕ) → length a' ≡ length a → stack_in a' (d + 1) ≡ row (i - 1) ∷ stack_in a d → list_of s (i - 1) ≡ b → Piled s b n L height W a' (i - 1) (d + 1)
+    piled_hit a' l f e =
         let w : i ≤ n = P.low in
         let u : d + i ≤ height + n = P.up in
-        let v : length a ≡ L = P.long in
         record {
-          long = length-set a d (i - 1) ∙ P.long;
+          long = l ∙ P.long;
           low = omega arith;
           up = omega arith;
-          is = held_push a d (i - 1) (omega arith) ∙ ap₂ ◌∷◌ (entry_row (i - 1) (omega arith)) here ∙ sym (pile_one s b (n - (i - 1)) (i - 1) W (omega arith) ∙ rw (eq-eqb (list_of s (i - 1)) b e));
+          is = f ∙ ap (λ (V : List Entry). row (i - 1) ∷ V) here ∙ sym (pile_one s b (n - (i - 1)) (i - 1) W (omega arith) ∙ rw (eq-eqb (list_of s (i - 1)) b e));
         }
 
     pub piled_miss : list_of s (i - 1) ≢ b → Piled s b n L height W a (i - 1) d

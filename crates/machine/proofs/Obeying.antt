@@ -12,6 +12,15 @@ use lib.ListN.{get_or, set}
 use Rattle.warps.specs.Language.{Mem, eval}
 use Rattle.lanes.specs.Words.{sync_token, div_token, brk_token, call_token, woken_by, broken_by, returned_by, leaving, only_active, highest_of}
 use Rattle.lanes.specs.declared.Lanes.{Lanes}
+use Rattle.std.specs.Prelude.{Option, Some, None}
+use Rattle.std.specs.Option.{unwrap_or}
+use Rattle.kernels.specs.declared.kernel.StatementKind.{StatementKind}
+use Rattle.kernels.specs.declared.kernel.StatementKind.TheVariants.{Skip, Assign, If, While, Break, Call, Return}
+use Rattle.kernels.specs.Rows.{number_of, statement_kind}
+use Rattle.kernels.proofs.Numbers.{kind_is, no_statement}
+use Rattle.machine.specs.declared.stack.StackEntry.{StackEntry}
+use Rattle.machine.specs.declared.stack.StackEntry.TheVariants.{Row, Again, Token}
+use Rattle.machine.specs.Needs.{meant}
 use Rattle.kernels.specs.Rows.{kind_of, x_of, y_of, z_of, skip_kind, assign_kind, if_kind, while_kind, break_kind, call_kind}
 use Rattle.values.specs.Expressions.{expression, acting}
 use Rattle.machine.specs.Entries.{Entry, row, again, token, again_from, tokens_from, entry_of, stack_in, from_token, list_over}
@@ -48,47 +57,55 @@ pub by_looping : (s e : List ℕ) (i : ℕ) (W : List Entry) (L : Lanes) (μ : M
     → w ≡ looping s e i W L μ
 by_looping s e i W L μ W₁ W₂ w p q r = r ∙ ap (λ (R : List Entry). repeating s e i R L μ) (q ∙ ap (λ (R : List Entry). again i ∷ R) p)
 
--- ---- a statement, by its kind
-module _ (s e : List ℕ) (i k : ℕ) (ek : k ≡ kind_of s i) (W : List Entry) (L : Lanes) (μ : Mem) where
-  is : (n : ℕ) → k ≡ n → eqb (kind_of s i) n ≡ true
-  is n p = eq-eqb (kind_of s i) n (sym ek ∙ p)
+-- ---- a statement, by its kind: as the code comes to it, a number past the kinds is a return
+module _ (s e : List ℕ) (i : ℕ) (r : Option StatementKind) (k : StatementKind) (er : r ≡ statement_kind (kind_of s i)) (ek : k ≡ unwrap_or r Return) where
+  kind_number : (m : StatementKind) → k ≡ m → (m ≡ Return → ⊥) → kind_of s i ≡ number_of m
+  kind_number m q n = go r er (sym ek ∙ q)
+    where
+      go : (r : Option StatementKind) → r ≡ statement_kind (kind_of s i) → unwrap_or r Return ≡ m → kind_of s i ≡ number_of m
+      go None u v = absurd (n (sym v))
+      go (Some j) u v = kind_is _ j (sym u) ∙ ap number_of v
 
-  isnt : (n : ℕ) → k ≢ n → eqb (kind_of s i) n ≡ false
-  isnt n p = ne_eqb (kind_of s i) n (λ q. p (ek ∙ q))
+  last_kind : k ≡ Return → 5 < kind_of s i
+  last_kind q = go r er (sym ek ∙ q)
+    where
+      go : (r : Option StatementKind) → r ≡ statement_kind (kind_of s i) → unwrap_or r Return ≡ Return → 5 < kind_of s i
+      go None u v = omega (arith, no_statement _ (sym u))
+      go (Some j) u v = let z : kind_of s i ≡ 6 = kind_is _ j (sym u) ∙ ap number_of v in omega arith
 
-  pub by_skip : k ≡ skip_kind → warp W L μ ≡ obey s e i W L μ
-  unfolding obey
-  by_skip p = sym (rw (is skip_kind p))
-
-  pub by_assign : (μ' : Mem) → k ≡ assign_kind → μ' ≡ set μ (x_of s i) (eval (expression e (y_of s i)) (highest_of 32 L.active) μ) → warp W L μ' ≡ obey s e i W L μ
-  unfolding obey
-  by_assign μ' p q = same refl refl q ∙ sym (rw (isnt skip_kind (λ z. omega arith), is assign_kind p))
-
-  pub by_if : (w : Warp) → k ≡ if_kind → w ≡ parted s e i W L μ → w ≡ obey s e i W L μ
-  unfolding obey
-  by_if w p q = q ∙ sym (rw (isnt skip_kind (λ z. omega arith), isnt assign_kind (λ z. omega arith), is if_kind p))
-
-  pub by_while : (w : Warp) → k ≡ while_kind → w ≡ looping s e i W L μ → w ≡ obey s e i W L μ
-  unfolding obey
-  by_while w p q = q ∙ sym (rw (isnt skip_kind (λ z. omega arith), isnt assign_kind (λ z. omega arith), isnt if_kind (λ z. omega arith), is while_kind p))
-
-  module _ (n₀ : k ≢ skip_kind) (n₁ : k ≢ assign_kind) (n₂ : k ≢ if_kind) (n₃ : k ≢ while_kind) where
-    left_over : obey s e i W L μ
-        ≡ cond (eqb (kind_of s i) break_kind) (warp (from_token W) (broken_by L) μ)
-        (cond (eqb (kind_of s i) call_kind) (warp (list_over s (x_of s i) (token call_token L.active ∷ W)) L μ) (warp (from_token W) (returned_by L) μ))
+  module _ (W : List Entry) (L : Lanes) (μ : Mem) where
+    pub by_skip : k ≡ Skip → warp W L μ ≡ obey s e i W L μ
     unfolding obey
-    left_over = rw (isnt skip_kind n₀, isnt assign_kind n₁, isnt if_kind n₂, isnt while_kind n₃)
+    by_skip p = let z : kind_of s i ≡ 0 = kind_number Skip p (λ q. cc) in sym (rw z)
 
-    pub by_call : (x : ℕ) (W' : List Entry) → k ≡ call_kind → x ≡ x_of s i → W' ≡ list_over s x (token call_token L.active ∷ W) → warp W' L μ ≡ obey s e i W L μ
+    pub by_assign : (μ' : Mem) → k ≡ Assign → μ' ≡ set μ (x_of s i) (eval (expression e (y_of s i)) (highest_of 32 L.active) μ) → warp W L μ' ≡ obey s e i W L μ
+    unfolding obey
+    by_assign μ' p m = let z : kind_of s i ≡ 1 = kind_number Assign p (λ q. cc) in same refl refl m ∙ sym (rw z)
+
+    pub by_if : (w : Warp) → k ≡ If → w ≡ parted s e i W L μ → w ≡ obey s e i W L μ
+    unfolding obey
+    by_if w p q = let z : kind_of s i ≡ 2 = kind_number If p (λ q. cc) in q ∙ sym (rw z)
+
+    pub by_while : (w : Warp) → k ≡ While → w ≡ looping s e i W L μ → w ≡ obey s e i W L μ
+    unfolding obey
+    by_while w p q = let z : kind_of s i ≡ 3 = kind_number While p (λ q. cc) in q ∙ sym (rw z)
+
+    pub by_break : (W' : List Entry) (L' : Lanes) → k ≡ Break → W' ≡ from_token W → L' ≡ broken_by L → warp W' L' μ ≡ obey s e i W L μ
+    unfolding obey
+    by_break W' L' p w l = let z : kind_of s i ≡ 4 = kind_number Break p (λ q. cc) in same w l refl ∙ sym (rw z)
+
+    pub by_call : (x : ℕ) (W' : List Entry) → k ≡ Call → x ≡ x_of s i → W' ≡ list_over s x (token call_token L.active ∷ W) → warp W' L μ ≡ obey s e i W L μ
+    unfolding obey
     by_call x W' p ex w =
-        same (w ∙ ap (λ (x : ℕ). list_over s x (token call_token L.active ∷ W)) ex) refl refl
-        ∙ sym (left_over ∙ rw (isnt break_kind (λ q. omega arith), is call_kind p))
+        let z : kind_of s i ≡ 5 = kind_number Call p (λ q. cc) in
+        same (w ∙ ap (λ (x : ℕ). list_over s x (token call_token L.active ∷ W)) ex) refl refl ∙ sym (rw z)
 
-    pub by_break : (W' : List Entry) (L' : Lanes) → k ≡ break_kind → W' ≡ from_token W → L' ≡ broken_by L → warp W' L' μ ≡ obey s e i W L μ
-    by_break W' L' p w l = same w l refl ∙ sym (left_over ∙ rw (is break_kind p))
-
-    pub by_return : (W' : List Entry) (L' : Lanes) → k ≢ break_kind → k ≢ call_kind → W' ≡ from_token W → L' ≡ returned_by L → warp W' L' μ ≡ obey s e i W L μ
-    by_return W' L' n₄ n₅ w l = same w l refl ∙ sym (left_over ∙ rw (isnt break_kind n₄, isnt call_kind n₅))
+    pub by_return : (W' : List Entry) (L' : Lanes) → k ≡ Return → W' ≡ from_token W → L' ≡ returned_by L → warp W' L' μ ≡ obey s e i W L μ
+    unfolding obey
+    by_return W' L' p w l =
+        let z : 5 < kind_of s i = last_kind p in
+        let n : (j : ℕ) → j ≤ 5 → eqb (kind_of s i) j ≡ false = λ j h. ne_eqb (kind_of s i) j (λ q. omega arith) in
+        same w l refl ∙ sym (rw (n 0 (omega arith), n 1 (omega arith), n 2 (omega arith), n 3 (omega arith), n 4 (omega arith), n 5 (omega arith)))
 
 -- ---- the whole step, by the topmost entry
 pub step_none : (s e a : List ℕ) (n : ℕ) (L : Lanes) (μ : Mem) → n ≡ 0 → warp (stack_in a n) L μ ≡ advance s e (stack_in a n) L μ
@@ -96,40 +113,35 @@ unfolding advance stack_in
 step_none s e a n L μ h = rw h
 
 module _ (s e a : List ℕ) (n : ℕ) (L : Lanes) (μ : Mem) (h : n ≢ 0) where
-  abbrev entry : ℕ
-  entry = get_or a (n - 1) 0
+  -- the entry on top, as the code reads it
+  module _ (x : StackEntry) (ex : meant x ≡ entry_of (get_or a (n - 1) 0)) where
+    abbrev under : List Entry
+    under = stack_in a (n - 1)
 
-  abbrev Advances : List Entry → Lanes → Mem → Type 0
-  Advances W' L' μ' = warp W' L' μ' ≡ advance s e (stack_in a n) L μ
+    on_top : {y : StackEntry} → x ≡ y → stack_in a n ≡ meant y ∷ under
+    on_top q = held_top a n (omega arith) ∙ ap (λ (x : Entry). x ∷ under) (sym ex ∙ ap meant q)
 
-  on_top : {x : Entry} → entry_of entry ≡ x → stack_in a n ≡ x ∷ stack_in a (n - 1)
-  on_top q = held_top a n (omega arith) ∙ ap (λ (x : Entry). x ∷ stack_in a (n - 1)) q
+    advancing : {y : StackEntry} → x ≡ y → advance s e (meant y ∷ under) L μ ≡ advance s e (stack_in a n) L μ
+    advancing q = sym (ap (λ (W : List Entry). advance s e W L μ) (on_top q))
 
-  is_token : tokens_from ≤ entry → stack_in a n ≡ token ((entry - tokens_from) % 4) ((entry - tokens_from) / 4 % 2 ^ 32) ∷ stack_in a (n - 1)
-  is_token l = on_top (entry_token entry l)
+    pub step_token : (kind mask : ℕ) (L' : Lanes) → x ≡ Token kind mask → L' ≡ woken_by L kind mask → warp under L' μ ≡ advance s e (stack_in a n) L μ
+    unfolding advance
+    step_token kind mask L' p q = same refl q refl ∙ advancing p
 
-  is_again : again_from ≤ entry → entry < tokens_from → stack_in a n ≡ again (entry - again_from) ∷ stack_in a (n - 1)
-  is_again l m = on_top (entry_again entry l m)
+    pub step_inact : (W' : List Entry) → ((kind mask : ℕ) → x ≡ Token kind mask → ⊥) → L.active ≡ 0 → W' ≡ from_token under → warp W' L μ ≡ advance s e (stack_in a n) L μ
+    unfolding advance
+    step_inact W' o z q = go x refl
+      where
+        go : (y : StackEntry) → x ≡ y → warp W' L μ ≡ advance s e (stack_in a n) L μ
+        go (Row i) p = same q refl refl ∙ sym (rw (eq-eqb L.active 0 z)) ∙ advancing p
+        go (Again i) p = same q refl refl ∙ sym (rw (eq-eqb L.active 0 z)) ∙ advancing p
+        go (Token kind mask) p = absurd (o kind mask p)
 
-  is_row : entry < again_from → stack_in a n ≡ row entry ∷ stack_in a (n - 1)
-  is_row m = on_top (entry_row entry m)
+    pub step_row : (i : ℕ) (w : Warp) → x ≡ Row i → L.active ≢ 0 → w ≡ obey s e i under L μ → w ≡ advance s e (stack_in a n) L μ
+    unfolding advance
+    step_row i w p z q = q ∙ sym (rw (ne_eqb L.active 0 z)) ∙ advancing p
 
-  pub step_token : (L' : Lanes) → tokens_from ≤ entry → L' ≡ woken_by L ((entry - tokens_from) % 4) ((entry - tokens_from) / 4 % 2 ^ 32) → Advances (stack_in a (n - 1)) L' μ
-  unfolding advance
-  step_token L' l q = same refl q refl ∙ sym (ap (λ (W : List Entry). advance s e W L μ) (is_token l))
-
-  pub step_inact : (W' : List Entry) → entry < tokens_from → L.active ≡ 0 → W' ≡ from_token (stack_in a (n - 1)) → Advances W' L μ
-  unfolding advance
-  step_inact W' l z q =
-      same q refl refl
-      ∙ by_cases (dec_lt entry again_from) (λ (m : entry < again_from). sym (ap (λ (W : List Entry). advance s e W L μ) (is_row m) ∙ rw (eq-eqb L.active 0 z)))
-      (λ (m : ¬ (entry < again_from)). sym (ap (λ (W : List Entry). advance s e W L μ) (is_again (omega arith) l) ∙ rw (eq-eqb L.active 0 z)))
-
-  pub step_row : (w : Warp) → entry < again_from → L.active ≢ 0 → w ≡ obey s e entry (stack_in a (n - 1)) L μ → w ≡ advance s e (stack_in a n) L μ
-  unfolding advance
-  step_row w m z q = q ∙ sym (ap (λ (W : List Entry). advance s e W L μ) (is_row m) ∙ rw (ne_eqb L.active 0 z))
-
-  pub step_again : (w : Warp) → again_from ≤ entry → entry < tokens_from → L.active ≢ 0 → w ≡ repeating s e (entry - again_from) (stack_in a n) L μ → w ≡ advance s e (stack_in a n) L μ
-  unfolding advance
-  step_again w l m z q =
-      q ∙ same (ap (list_over s (y_of s (entry - again_from))) (is_again l m)) refl refl ∙ sym (ap (λ (W : List Entry). advance s e W L μ) (is_again l m) ∙ rw (ne_eqb L.active 0 z))
+    pub step_again : (i : ℕ) (w : Warp) → x ≡ Again i → L.active ≢ 0 → w ≡ repeating s e i (stack_in a n) L μ → w ≡ advance s e (stack_in a n) L μ
+    unfolding advance
+    step_again i w p z q =
+        q ∙ same (ap (list_over s (y_of s i)) (on_top p)) refl refl ∙ sym (rw (ne_eqb L.active 0 z)) ∙ advancing p

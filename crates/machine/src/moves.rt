@@ -1,12 +1,10 @@
 // The start and the step, for any numbers in any room.
-ghost use Rattle.std.specs.Prelude.{◌≡◌, ◌-◌, ◌/◌, ◌%◌, ◌^◌, ◌≤◌};
-ghost use Rattle.lanes.specs.Words.{woken_by};
-ghost use Rattle.machine.specs.Entries.{tokens_from};
+ghost use Rattle.std.specs.Prelude.{◌≡◌};
 ghost use Rattle.machine.specs.Needs.{CanStep};
 ghost use Rattle.machine.specs.Step.{next_warp, warp_of, workable, StartsWarp, StepsWarp};
 
 use crate::rules::{enter, obey_row, repeat};
-use crate::stack::{Stack, Stand, drop_rows};
+use crate::stack::{Stack, StackEntry, Stand, drop_rows};
 use kernels::Kernel;
 use lanes::{Lanes, all_of};
 
@@ -14,13 +12,9 @@ use lanes::{Lanes, all_of};
 fn fits(code: &[u32], stack: &[u64], height: usize) -> bool
     ensures { result ≡ workable code.now stack.now height }
 {
-    if code.len() / 5 > Kernel::STATEMENTS {
-        return false;
-    }
-    if stack.len() < Stack::ROOM {
-        return false;
-    }
-    height <= Stack::ENTRIES
+    (code.len() / 5 <= Kernel::STATEMENTS)
+        & (Stack::ROOM <= stack.len())
+        & (height <= Stack::ENTRIES)
 }
 
 // The start of a kernel with so many lanes, into a room.
@@ -49,15 +43,6 @@ pub fn start_warp(code: &[u32], lanes: u32, stack: &mut [u64]) -> Stand
     }
 }
 
-// A token comes off the stack, as it stands in its room.
-fn take_off(lanes: Lanes, entry: u64) -> Lanes
-    requires { tokens_from ≤ entry }
-    ensures { result ≡ woken_by lanes ((entry - tokens_from) % 4) ((entry - tokens_from) / 4 % 2 ^ 32) }
-{
-    let rest = entry - Stack::TOKENS;
-    lanes.wake((rest % 4) as u32, (rest / 4 % 4294967296) as u32)
-}
-
 // One step, by the topmost entry.
 fn move_on(
     code: &[u32],
@@ -75,31 +60,25 @@ fn move_on(
         return stand;
     }
     let under = stand.height - 1;
-    let entry = stack[under];
-    if entry >= Stack::TOKENS {
-        let lanes = take_off(lanes, entry);
-        return Stand {
-            height: under,
-            lanes: lanes,
-        };
+    match StackEntry::of(stack[under]) {
+        StackEntry::Token(kind, mask) => {
+            let lanes = lanes.wake(kind, mask);
+            Stand {
+                height: under,
+                lanes: lanes,
+            }
+        }
+        StackEntry::Row(i) if lanes.active != 0 => {
+            obey_row(code, expressions, i, lanes, stack, under, cells)
+        }
+        StackEntry::Again(i) if lanes.active != 0 => {
+            repeat(code, expressions, i, lanes, stack, stand.height, cells)
+        }
+        _ => {
+            let height = drop_rows(stack, under);
+            Stand { height, lanes }
+        }
     }
-    if lanes.active == 0 {
-        let height = drop_rows(stack, under);
-        return Stand { height, lanes };
-    }
-    if entry < Stack::AGAIN {
-        return obey_row(
-            code,
-            expressions,
-            entry as usize,
-            lanes,
-            stack,
-            under,
-            cells,
-        );
-    }
-    let i = (entry - Stack::AGAIN) as usize;
-    repeat(code, expressions, i, lanes, stack, stand.height, cells)
 }
 
 // One step of a warp, in place. What cannot be stepped stays as it is.

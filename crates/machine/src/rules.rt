@@ -9,8 +9,8 @@ ghost use Rattle.machine.specs.Entries.{token, stack_in, list_over};
 ghost use Rattle.machine.specs.Needs.{CanStep};
 ghost use Rattle.machine.specs.Step.{parted, looping, repeating, obey, warp_of};
 
-use crate::stack::{Stand, drop_rows, push_list, push_named, put_again, put_token};
-use kernels::Kernel;
+use crate::stack::{StackEntry, Stand, drop_rows, push_list, push_named, put};
+use kernels::StatementKind;
 use lanes::{Lanes, TokenKind, highest};
 use values::{acting_lanes, at, value};
 
@@ -51,9 +51,17 @@ fn divide(
         ≡ parted code.now expressions.now i (stack_in stack.old height) lanes cells.now }
 {
     let acting = acting_of(code, expressions, i, lanes.active, cells);
-    let joined = put_token(stack, height, TokenKind::SYNC, lanes.active);
+    let joined = put(
+        stack,
+        height,
+        StackEntry::Token(TokenKind::Sync as u32, lanes.active),
+    );
     let first = push_named(stack, joined, code, 5 * i + 3);
-    let divided = put_token(stack, first, TokenKind::DIV, acting);
+    let divided = put(
+        stack,
+        first,
+        StackEntry::Token(TokenKind::Div as u32, acting),
+    );
     let height = push_named(stack, divided, code, 5 * i + 4);
     let lanes = lanes.leave_out(acting);
     Stand { height, lanes }
@@ -93,8 +101,12 @@ fn enter_loop(
     ensures { warp_of stack.new result cells.now
         ≡ looping code.now expressions.now i (stack_in stack.old height) lanes cells.now }
 {
-    let left = put_token(stack, height, TokenKind::BRK, lanes.active);
-    let begun = put_again(stack, left, i);
+    let left = put(
+        stack,
+        height,
+        StackEntry::Token(TokenKind::Brk as u32, lanes.active),
+    );
+    let begun = put(stack, left, StackEntry::Again(i));
     repeat(code, expressions, i, lanes, stack, begun, cells)
 }
 
@@ -103,11 +115,15 @@ pub(crate) fn enter(code: &[u32], x: u32, active: u32, stack: &mut [u64], height
     requires { CanStep code.now stack.old height }
     ensures { stack_in stack.new result ≡ list_over code.now x (token call_token active ∷ stack_in stack.old height) }
 {
-    let back = put_token(stack, height, TokenKind::CALL, active);
+    let back = put(
+        stack,
+        height,
+        StackEntry::Token(TokenKind::Call as u32, active),
+    );
     push_list(stack, back, code, x)
 }
 
-// The statement of row i.
+// The statement of row i. A number past the kinds is a return.
 pub(crate) fn obey_row(
     code: &[u32],
     expressions: &[u32],
@@ -121,30 +137,29 @@ pub(crate) fn obey_row(
     ensures { warp_of stack.new result cells.new
         ≡ obey code.now expressions.now i (stack_in stack.old height) lanes cells.old }
 {
-    let kind = at(code, 5 * i + 1);
-    if kind == Kernel::SKIP {
-        return Stand { height, lanes };
+    let kind = StatementKind::of(at(code, 5 * i + 1)).unwrap_or(StatementKind::Return);
+    match kind {
+        StatementKind::Skip => Stand { height, lanes },
+        StatementKind::Assign => {
+            assign(code, expressions, i, lanes.active, cells);
+            Stand { height, lanes }
+        }
+        StatementKind::If => divide(code, expressions, i, lanes, stack, height, cells),
+        StatementKind::While => enter_loop(code, expressions, i, lanes, stack, height, cells),
+        StatementKind::Break => {
+            let height = drop_rows(stack, height);
+            let lanes = lanes.break_off();
+            Stand { height, lanes }
+        }
+        StatementKind::Call => {
+            let x = at(code, 5 * i + 2);
+            let height = enter(code, x, lanes.active, stack, height);
+            Stand { height, lanes }
+        }
+        StatementKind::Return => {
+            let height = drop_rows(stack, height);
+            let lanes = lanes.give_up();
+            Stand { height, lanes }
+        }
     }
-    if kind == Kernel::ASSIGN {
-        assign(code, expressions, i, lanes.active, cells);
-        return Stand { height, lanes };
-    }
-    if kind == Kernel::IF {
-        return divide(code, expressions, i, lanes, stack, height, cells);
-    }
-    if kind == Kernel::WHILE {
-        return enter_loop(code, expressions, i, lanes, stack, height, cells);
-    }
-    if kind == Kernel::CALL {
-        let x = at(code, 5 * i + 2);
-        let height = enter(code, x, lanes.active, stack, height);
-        return Stand { height, lanes };
-    }
-    let height = drop_rows(stack, height);
-    if kind == Kernel::BREAK {
-        let lanes = lanes.break_off();
-        return Stand { height, lanes };
-    }
-    let lanes = lanes.give_up();
-    Stand { height, lanes }
 }

@@ -2,8 +2,8 @@
 ghost use Rattle.std.specs.Prelude.{◌≡◌, ◌∷◌, ◌+◌, ◌≤◌, ◌<◌, length, get_or};
 ghost use Rattle.kernels.specs.Limits.{most_statements};
 ghost use Rattle.kernels.specs.Rows.{statements};
-ghost use Rattle.machine.specs.Entries.{token, again, entry_of, stack_in, from_token, list_over};
-ghost use Rattle.machine.specs.Needs.{number_of_token};
+ghost use Rattle.machine.specs.Entries.{entry_of, stack_in, from_token, list_over};
+ghost use Rattle.machine.specs.Needs.{meant, Small};
 
 use lanes::Lanes;
 use values::at;
@@ -29,35 +29,49 @@ pub struct Stand {
     pub lanes: Lanes,
 }
 
+// An entry of the stack: the statement of a row, a while of a row that has begun, or a token with its mask.
+#[derive(Clone, Copy)]
+pub(crate) enum StackEntry {
+    Row(usize),
+    Again(usize),
+    Token(u32, u32),
+}
+
+impl StackEntry {
+    // The entry that a number stands for.
+    pub(crate) fn of(number: u64) -> Self
+        ensures { (meant result ≡ entry_of number) × Small result }
+    {
+        if number < Stack::AGAIN {
+            return StackEntry::Row(number as usize);
+        }
+        if number < Stack::TOKENS {
+            return StackEntry::Again((number - Stack::AGAIN) as usize);
+        }
+        let rest = number - Stack::TOKENS;
+        StackEntry::Token((rest % 4) as u32, (rest / 4 % 4294967296) as u32)
+    }
+
+    // A number that stands for the entry.
+    fn number(self) -> u64
+        requires { Small self }
+        ensures { entry_of result ≡ meant self }
+    {
+        match self {
+            StackEntry::Row(i) => i as u64,
+            StackEntry::Again(i) => Stack::AGAIN + i as u64,
+            StackEntry::Token(kind, mask) => Stack::TOKENS + 4 * mask as u64 + kind as u64,
+        }
+    }
+}
+
 // An entry goes onto the stack.
-fn put(stack: &mut [u64], height: usize, entry: u64) -> usize
-    requires { height < length stack.old }
-    ensures { (stack_in stack.new result ≡ entry_of entry ∷ stack_in stack.old height) × (result ≡ height + 1) }
+pub(crate) fn put(stack: &mut [u64], height: usize, entry: StackEntry) -> usize
+    requires { (height < length stack.old) × Small entry }
+    ensures { (stack_in stack.new result ≡ meant entry ∷ stack_in stack.old height) × (result ≡ height + 1) }
 {
-    stack[height] = entry;
+    stack[height] = entry.number();
     height + 1
-}
-
-// A token as a number.
-fn token_number(kind: u32, mask: u32) -> u64
-    ensures { result ≡ number_of_token kind mask }
-{
-    Stack::TOKENS + 4 * (mask as u64) + (kind as u64)
-}
-
-pub(crate) fn put_token(stack: &mut [u64], height: usize, kind: u32, mask: u32) -> usize
-    requires { (height < length stack.old) × (kind < 4) }
-    ensures { (stack_in stack.new result ≡ token kind mask ∷ stack_in stack.old height) × (result ≡ height + 1) }
-{
-    put(stack, height, token_number(kind, mask))
-}
-
-// Row i, a while that has begun.
-pub(crate) fn put_again(stack: &mut [u64], height: usize, i: usize) -> usize
-    requires { (height < length stack.old) × (i < 256) }
-    ensures { (stack_in stack.new result ≡ again i ∷ stack_in stack.old height) × (result ≡ height + 1) }
-{
-    put(stack, height, Stack::AGAIN + (i as u64))
 }
 
 // The rows of list b, the last first, so that the first lies on top.
@@ -65,13 +79,10 @@ pub(crate) fn push_list(stack: &mut [u64], height: usize, code: &[u32], b: u32) 
     requires { (height + 256 ≤ length stack.old) × (statements code.now ≤ most_statements) }
     ensures { (stack_in stack.new result ≡ list_over code.now b (stack_in stack.old height)) × (result ≤ height + 256) }
 {
-    let mut i = code.len() / 5;
     let mut top = height;
-    while i > 0 {
-        i -= 1;
+    for i in (0..code.len() / 5).rev() {
         if code[5 * i] == b {
-            stack[top] = i as u64;
-            top += 1;
+            top = put(stack, top, StackEntry::Row(i));
         }
     }
     top
@@ -91,12 +102,10 @@ pub(crate) fn drop_rows(stack: &[u64], height: usize) -> usize
     requires { height ≤ length stack.now }
     ensures { (stack_in stack.now result ≡ from_token (stack_in stack.now height)) × (result ≤ height) }
 {
-    let mut top = height;
-    while top > 0 {
-        if stack[top - 1] >= Stack::TOKENS {
-            return top;
+    for i in (0..height).rev() {
+        if stack[i] >= Stack::TOKENS {
+            return i + 1;
         }
-        top -= 1;
     }
-    top
+    0
 }

@@ -1,13 +1,20 @@
 -- The value of a row from those of the rows before it.
-use Rattle.std.proofs.Common.{◌≡◌, ℕ, zero, suc, ◌+◌, ◌-◌, ◌%◌, ◌^◌, ◌<◌, ◌≤◌, Bool, true, false, cond, eqb, ltb, ◌≢◌, List, length, get_or, set, sym, refl, ap, ◌∙◌, subst, ap₂, ⊎_elim, arith, length-set, get_or-set_other, get_or-set_same, ltb-true, le-ltb, lt-ltb, eq-eqb, ne_eqb}
-use mathlib.Core.Logic.{by_cases}
+use Rattle.std.proofs.Common.{◌≡◌, ℕ, zero, suc, ◌+◌, ◌-◌, ◌%◌, ◌^◌, ◌<◌, ◌≤◌, Bool, true, false, cond, eqb, ltb, ◌≢◌, List, length, get_or, set, sym, refl, ap, ◌∙◌, subst, ap₂, ⊎_elim, arith, length-set, get_or-set_other, get_or-set_same, ltb-true, le-ltb, lt-ltb, ne_eqb}
+use lib.ListN.{replicate, length-replicate}
+use mathlib.Core.Logic.{by_cases, ◌⊎◌, inl, inr}
 use native.Mathlib.Decide.{ℕ_discrete}
 use Rattle.relation.proofs.Truth.{split}
 use Rattle.warps.specs.Language.{Expr, literal, cell, lane, plus, minus, less, Mem, eval}
 use Rattle.kernels.specs.Limits.{most_expressions}
-use Rattle.kernels.specs.Rows.{expr_kind, expr_x, expr_y}
+use Rattle.std.specs.Prelude.{Option, Some, None}
+use mir.Val.{bool_byte}
+use Rattle.std.specs.Option.{unwrap_or}
+use Rattle.kernels.specs.declared.kernel.ExpressionKind.{ExpressionKind}
+use Rattle.kernels.specs.declared.kernel.ExpressionKind.TheVariants.{Number, Cell, Lane, Sum, Difference, Less}
+use Rattle.kernels.specs.Rows.{expr_kind, expr_x, expr_y, expression_number, expression_kind}
+use Rattle.kernels.proofs.Numbers.{expression_is, no_expression}
 use Rattle.values.specs.Expressions.{expr_by, expr_at, expression}
-use Rattle.values.specs.Needs.{value_by, row_by}
+use Rattle.values.specs.Needs.{value_by, SameValue, row_by}
 
 eval_by : (k x : ℕ) (p q : Expr) (t : ℕ) (μ : Mem) → eval (expr_by k x p q) t μ ≡ value_by k x (eval p t μ) (eval q t μ) (get_or μ x 0) t
 unfolding eval
@@ -52,8 +59,8 @@ module _ (e : List ℕ) where
     pub long : length v ≡ n
     pub past : (j : ℕ) → j < i → get_or v j 0 ≡ eval (expr_at e (suc j) j) t μ
 
-  pub filled_none : (t : ℕ) (μ : Mem) (v : List ℕ) → Filled t μ (length v) v 0
-  filled_none t μ v = record { long = refl; past = λ j h. absurd (omega arith) }
+  pub filled_none : (t : ℕ) (μ : Mem) (n : ℕ) → Filled t μ n (replicate n 0) 0
+  filled_none t μ n = record { long = length-replicate n 0; past = λ j h. absurd (omega arith) }
 
   pub filled_more : (t : ℕ) (μ : Mem) (n : ℕ) (v : List ℕ) (i r : ℕ) → Filled t μ n v i → i < n → r ≡ row_by e i t μ v → Filled t μ n (set v i r) (i + 1)
   filled_more t μ n v i r F l q =
@@ -65,14 +72,6 @@ module _ (e : List ℕ) where
             (λ (o : j ≢ i). get_or-set_other v i j r 0 o ∙ F.past j (omega arith));
       }
 
-  -- a row as the code comes to it, without operands and with them
-  module _ (i t : ℕ) (μ : Mem) (v : List ℕ) {kind x r : ℕ} (ek : kind ≡ expr_kind e i) (ex : x ≡ expr_x e i) where
-    pub leaf_by : {held : ℕ} → held ≡ get_or μ x 0 → ((a b : ℕ) → r ≡ value_by kind x a b held t) → r ≡ row_by e i t μ v
-    leaf_by eh q = rw (← ek, ← ex, ← eh) (q _ _)
-
-    pub pair_by : {y a b : ℕ} → y ≡ expr_y e i → a ≡ cond (ltb x i) (get_or v x 0) 0 → b ≡ cond (ltb y i) (get_or v y 0) 0 → ((x held t : ℕ) → r ≡ value_by kind x a b held t) → r ≡ row_by e i t μ v
-    pair_by ey ea eb q = rw (← ek, ← ex, ← ey, ← ea, ← eb) (q _ _ _)
-
   pub past_limit : (i t : ℕ) (μ : Mem) → most_expressions ≤ i → 0 ≡ eval (expression e i) t μ
   unfolding eval
   past_limit i t μ h = rw (le-ltb i most_expressions h)
@@ -80,20 +79,52 @@ module _ (e : List ℕ) where
   pub in_limit : (i t : ℕ) (μ : Mem) (r : ℕ) → i < most_expressions → r ≡ eval (expr_at e (suc i) i) t μ → r ≡ eval (expression e i) t μ
   in_limit i t μ r h q = rw (lt-ltb i most_expressions h) q
 
--- a row with operands, as the code comes to it
-module _ (k x a b h t : ℕ) (l : 3 ≤ k) where
-  paired : value_by k x a b h t ≡ cond (eqb k 3) ((a + b) % 2 ^ 32) (cond (eqb k 4) ((a + 2 ^ 32 - b) % 2 ^ 32) (cond (ltb a b) 1 0))
-  paired = rw (ne_eqb k 0 (λ q. omega arith), ne_eqb k 1 (λ q. omega arith), ne_eqb k 2 (λ q. omega arith))
+-- ---- a kind, by its number
 
-  pub is_sum : k ≡ 3 → (r : ℕ) → r ≡ (a + b) % 2 ^ 32 → r ≡ value_by k x a b h t
-  is_sum e r q = rw paired (rw (eq-eqb k 3 e) q)
+-- a number past the kinds is a less-than
+past_kinds : (n : ℕ) → 5 < n → SameValue 5 n
+past_kinds n l = record { same = λ x a b h t. sym (rw (ne_eqb n 0 (λ q. omega arith), ne_eqb n 1 (λ q. omega arith), ne_eqb n 2 (λ q. omega arith), ne_eqb n 3 (λ q. omega arith), ne_eqb n 4 (λ q. omega arith))) }
 
-  pub is_difference : k ≢ 3 → k ≡ 4 → (r : ℕ) → a < 2 ^ 32 → b < 2 ^ 32 → r < 2 ^ 32 → (r + b) % 2 ^ 32 ≡ a → r ≡ value_by k x a b h t
-  is_difference n e r la lb lr q = rw paired (rw (ne_eqb k 3 n, eq-eqb k 4 e) (omega arith))
+pub kind_by : (n : ℕ) (r : Option ExpressionKind) → r ≡ expression_kind n → SameValue (expression_number (unwrap_or r Less)) n
+kind_by n None e = past_kinds n (no_expression n (sym e))
+kind_by n (Some k) e = let q : n ≡ expression_number k = expression_is n k (sym e) in record { same = λ x a b h t. ap (λ (m : ℕ). value_by m x a b h t) (sym q) }
 
-  pub is_less : k ≢ 3 → k ≢ 4 → value_by k x a b h t ≡ cond (ltb a b) 1 0
-  is_less n m = rw paired (rw (ne_eqb k 3 n, ne_eqb k 4 m))
+module _ (k : ExpressionKind) where
+  pub is_pair : (k ≡ Sum) ⊎ ((k ≡ Difference) ⊎ (k ≡ Less)) → 3 ≤ expression_number k
+  is_pair (inl e) = rw e (omega arith)
+  is_pair (inr (inl e)) = rw e (omega arith)
+  is_pair (inr (inr e)) = rw e (omega arith)
 
--- one without, the last of the three
-pub is_lane : (k x a b h t : ℕ) → k < 3 → k ≢ 0 → k ≢ 1 → t ≡ value_by k x a b h t
-is_lane k x a b h t l n m = rw (ne_eqb k 0 n, ne_eqb k 1 m, eq-eqb k 2 (omega arith))
+  module _ (x a b h t : ℕ) where
+    pub is_number : k ≡ Number → x ≡ value_by (expression_number k) x a b h t
+    is_number e = sym (rw e)
+
+    pub is_cell : k ≡ Cell → h ≡ value_by (expression_number k) x a b h t
+    is_cell e = sym (rw e)
+
+    pub is_sum : k ≡ Sum → (r : ℕ) → r ≡ (a + b) % 2 ^ 32 → r ≡ value_by (expression_number k) x a b h t
+    is_sum e r q = rw e q
+
+    pub is_difference : k ≡ Difference → (r : ℕ) → r ≡ (a + 2 ^ 32 - b) % 2 ^ 32 → r ≡ value_by (expression_number k) x a b h t
+    is_difference e r q = rw e q
+
+-- the last of each sort
+pub is_lane : (k : ExpressionKind) (x a b h t : ℕ) → expression_number k < 3 → (k ≡ Number → ⊥) → (k ≡ Cell → ⊥) → t ≡ value_by (expression_number k) x a b h t
+is_lane Number x a b h t l n m = absurd (n refl)
+is_lane Cell x a b h t l n m = absurd (m refl)
+is_lane Lane x a b h t l n m = refl
+is_lane Sum x a b h t l n m = absurd (omega arith)
+is_lane Difference x a b h t l n m = absurd (omega arith)
+is_lane Less x a b h t l n m = absurd (omega arith)
+
+pub is_less : (k : ExpressionKind) (x a b h t : ℕ) → 3 ≤ expression_number k → (k ≡ Sum → ⊥) → (k ≡ Difference → ⊥) → cond (ltb a b) 1 0 ≡ value_by (expression_number k) x a b h t
+is_less Number x a b h t l n m = absurd (omega arith)
+is_less Cell x a b h t l n m = absurd (omega arith)
+is_less Lane x a b h t l n m = absurd (omega arith)
+is_less Sum x a b h t l n m = absurd (n refl)
+is_less Difference x a b h t l n m = absurd (m refl)
+is_less Less x a b h t l n m = refl
+
+pub byte_of : (b : Bool) → bool_byte b ≡ cond b 1 0
+byte_of true = refl
+byte_of false = refl

@@ -9,7 +9,7 @@ use Rattle.warps.specs.Language.{Mem, eval}
 use Rattle.kernels.specs.Limits.{most_expressions}
 use Rattle.kernels.specs.Rows.{expr_kind, expr_x, expr_y}
 use Rattle.values.specs.Expressions.{expr_at}
-use Rattle.values.specs.Needs.{value_by, strip_of, Ahead, Strips, StripDone, CanFill, RowDone, Zeroed, Valued}
+use Rattle.values.specs.Needs.{value_by, SameValue, strip_of, Ahead, Strips, StripDone, CanFill, RowDone, Zeroed, Valued}
 use Rattle.values.proofs.Filling.{value_step, in_limit}
 
 -- ---- a row
@@ -70,12 +70,15 @@ pub strips : {v : List ℕ} {i n : ℕ} → CanFill v i n → (x y : ℕ) {a b :
 strips {i = i} {n = n} C x y ea eb = record { left = rw ea (ahead n x i); right = rw eb (ahead n y i); inside = room_for C }
 
 -- a row of the table, as the code comes to it
-module _ (e : List ℕ) (i n : ℕ) (μ : Mem) {u v : List ℕ} {kind x : ℕ} (ek : kind ≡ expr_kind e i) (ex : x ≡ expr_x e i) where
+kind_done : {k l x held a b to n : ℕ} {u v : List ℕ} → SameValue k l → StripDone k x held a b to n u v → StripDone l x held a b to n u v
+kind_done q D = record { long = D.long; own = λ j l. D.own j l ∙ q.same _ _ _ _ _; below = D.below; above = D.above }
+
+module _ (e : List ℕ) (i n : ℕ) (μ : Mem) {u v : List ℕ} {kind x : ℕ} (ek : SameValue kind (expr_kind e i)) (ex : x ≡ expr_x e i) where
   pub leaf_row : {held : ℕ} → held ≡ get_or μ x 0 → ((a b : ℕ) → StripDone kind x held a b (i * n) n u v) → RowDone e i n μ u v
-  leaf_row eh D = rw (← ek, ← ex, ← eh) (D _ _)
+  leaf_row eh D = rw (← ex, ← eh) (kind_done ek (D _ _))
 
   pub pair_row : {y a b : ℕ} → y ≡ expr_y e i → a ≡ strip_of n x i → b ≡ strip_of n y i → ((x held : ℕ) → StripDone kind x held a b (i * n) n u v) → RowDone e i n μ u v
-  pair_row ey ea eb D = rw (← ek, ← ex, ← ey, ← ea, ← eb) (D _ _)
+  pair_row ey ea eb D = rw (← ex, ← ey, ← ea, ← eb) (kind_done ek (D _ _))
 
 -- ---- all rows
 

@@ -12,6 +12,10 @@ value_by kind x a b held t =
     (cond (kind == cell_expr) held
     (cond (kind == lane_expr) t (cond (kind == sum_expr) ((a + b) % 2 ^ 32) (cond (kind == difference_expr) ((a + 2 ^ 32 - b) % 2 ^ 32) (cond (nat_lt a b) 1 0)))))
 
+-- two numbers stand for one kind
+pub record SameValue (k l : ℕ) : Type 0 where
+  pub same : (x a b held t : ℕ) → value_by k x a b held t ≡ value_by l x a b held t
+
 -- for one lane, v has the values of earlier rows; an operand that is none of them is 0
 abbrev pub row_by : (e : List ℕ) (i t : ℕ) → Mem → (v : List ℕ) → ℕ
 row_by e i t μ v =

@@ -1,5 +1,5 @@
 // The lanes for which an expression is not 0.
-ghost use Rattle.std.specs.Prelude.{◌≡◌, ◌^◌, ◌<◌, ◌≤◌, if◌then◌else◌};
+ghost use Rattle.std.specs.Prelude.{◌≡◌, ◌+◌, ◌*◌, ◌^◌, ◌<◌, ◌≤◌, if◌then◌else◌};
 ghost use Rattle.warps.specs.Language.{test};
 ghost use Rattle.kernels.specs.Limits.{most_expressions};
 ghost use Rattle.values.specs.Expressions.{expression, acting};
@@ -21,7 +21,7 @@ const FULL: usize = 8192;
 fn lane_count(mask: u32) -> u32
     ensures { (mask < 2 ^ result) × (result ≤ 32) }
 {
-    32 - u32::leading_zeros(mask)
+    32 - mask.leading_zeros()
 }
 
 // A mask of one lane, if row `root` is not 0 for it.
@@ -49,33 +49,42 @@ fn acting_in(
     fill_rows(expressions, root, count as usize, cells, values);
     let from = root * (count as usize);
     let mut found = 0u32;
-    let mut t = 0u32;
-    while t < count {
-        let bit = t;
-        t += 1;
-        if ((mask >> bit) % 2 == 1) & (values[from + (bit as usize)] != 0) {
-            found = found | (1u32 << bit);
+    for t in 0..count {
+        if ((mask >> t) % 2 == 1) & (values[from + t as usize] != 0) {
+            found |= 1u32 << t;
         }
     }
     found
 }
 
-// The same, in a room of its own.
+// The same, in a room of N values.
+fn acting_sized<const N: usize>(
+    expressions: &[u32],
+    root: usize,
+    mask: u32,
+    count: u32,
+    cells: &[u32],
+) -> u32
+    requires { ((root + 1) * count ≤ N) × (N ≤ 8192) × (root < most_expressions) × (count ≤ 32) }
+    ensures { result ≡ acting mask (expression expressions.now root) cells.now count }
+{
+    let mut values = [0u32; N];
+    acting_in(expressions, root, mask, count, cells, &mut values)
+}
+
+// The same, in the smallest room that serves.
 fn acting_several(expressions: &[u32], root: usize, mask: u32, count: u32, cells: &[u32]) -> u32
     requires { (root < most_expressions) × (count ≤ 32) }
     ensures { result ≡ acting mask (expression expressions.now root) cells.now count }
 {
     let needed = (root + 1) * (count as usize);
     if needed <= SMALL {
-        let mut values = [0u32; SMALL];
-        return acting_in(expressions, root, mask, count, cells, &mut values);
+        return acting_sized::<SMALL>(expressions, root, mask, count, cells);
     }
     if needed <= MIDDLE {
-        let mut values = [0u32; MIDDLE];
-        return acting_in(expressions, root, mask, count, cells, &mut values);
+        return acting_sized::<MIDDLE>(expressions, root, mask, count, cells);
     }
-    let mut values = [0u32; FULL];
-    acting_in(expressions, root, mask, count, cells, &mut values)
+    acting_sized::<FULL>(expressions, root, mask, count, cells)
 }
 
 // The lanes of a mask for which row `root` is not 0; there are none past the limit.

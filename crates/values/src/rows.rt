@@ -2,11 +2,11 @@
 ghost use Rattle.std.specs.Prelude.{◌≡◌, ℕ, ◌<◌, ◌≤◌, length, if◌then◌else◌, nat_lt, slice_index};
 ghost use Rattle.relation.specs.Promise.{AnswersAt};
 ghost use Rattle.kernels.specs.Limits.{most_expressions};
-ghost use Rattle.kernels.specs.Rows.{sum_expr};
+ghost use Rattle.kernels.specs.Rows.{sum_expr, expr_kind, expression_number};
 ghost use Rattle.values.specs.Promise.{AnswersValue};
-ghost use Rattle.values.specs.Needs.{value_by, row_by};
+ghost use Rattle.values.specs.Needs.{value_by, SameValue, row_by};
 
-use kernels::Kernel;
+use kernels::{ExpressionKind, Kernel};
 
 // Few rows have a small room, which is sooner empty.
 const FEW: usize = 32;
@@ -21,43 +21,44 @@ pub fn at(numbers: &[u32], i: usize) -> u32
     0
 }
 
+// The kind of row i. A number past the kinds is a less-than.
+pub(crate) fn kind_at(expressions: &[u32], i: usize) -> ExpressionKind
+    requires { i < most_expressions }
+    ensures { SameValue (expression_number result) (expr_kind expressions.now i) }
+{
+    ExpressionKind::of(at(expressions, 3 * i)).unwrap_or(ExpressionKind::Less)
+}
+
 // The value of an operand, if it is an earlier row, or 0.
 fn operand(values: &[u32], x: u32, i: usize) -> u32
     requires { i ≤ length values.now }
     ensures { result ≡ (if nat_lt x i then slice_index values.now x else 0) }
 {
-    if (x as usize) < i {
-        return values[x as usize];
-    }
-    0
+    values[..i].get(x as usize).copied().unwrap_or(0)
 }
 
 // A row without operands: the number x, what cell x holds, or the lane's number.
-pub(crate) fn leaf_value(kind: u32, x: u32, held: u32, lane: u32) -> u32
-    requires { kind < sum_expr }
-    ensures { (a b : ℕ) → result ≡ value_by kind x a b held lane }
+pub(crate) fn leaf_value(kind: ExpressionKind, x: u32, held: u32, lane: u32) -> u32
+    requires { expression_number kind < sum_expr }
+    ensures { (a b : ℕ) → result ≡ value_by (expression_number kind) x a b held lane }
 {
-    if kind == Kernel::NUMBER {
-        return x;
+    match kind {
+        ExpressionKind::Number => x,
+        ExpressionKind::Cell => held,
+        _ => lane,
     }
-    if kind == Kernel::CELL {
-        return held;
-    }
-    lane
 }
 
 // A row with operands, by their values.
-pub(crate) fn pair_value(kind: u32, a: u32, b: u32) -> u32
-    requires { sum_expr ≤ kind }
-    ensures { (x held lane : ℕ) → result ≡ value_by kind x a b held lane }
+pub(crate) fn pair_value(kind: ExpressionKind, a: u32, b: u32) -> u32
+    requires { sum_expr ≤ expression_number kind }
+    ensures { (x held lane : ℕ) → result ≡ value_by (expression_number kind) x a b held lane }
 {
-    if kind == Kernel::SUM {
-        return std::num::wrapping_add_u32(a, b);
+    match kind {
+        ExpressionKind::Sum => a.wrapping_add(b),
+        ExpressionKind::Difference => a.wrapping_sub(b),
+        _ => u32::from(a < b),
     }
-    if kind == Kernel::DIFFERENCE {
-        return std::num::wrapping_sub_u32(a, b);
-    }
-    if a < b { 1 } else { 0 }
 }
 
 // Row i for a lane, from the values of the rows before it.
@@ -65,26 +66,27 @@ fn row_value(expressions: &[u32], i: usize, lane: u32, cells: &[u32], values: &[
     requires { (i < most_expressions) × (i < length values.now) }
     ensures { result ≡ row_by expressions.now i lane cells.now values.now }
 {
-    let kind = at(expressions, 3 * i);
+    let kind = kind_at(expressions, i);
     let x = at(expressions, 3 * i + 1);
-    if kind < Kernel::SUM {
-        return leaf_value(kind, x, at(cells, x as usize), lane);
+    match kind {
+        ExpressionKind::Number | ExpressionKind::Cell | ExpressionKind::Lane => {
+            leaf_value(kind, x, at(cells, x as usize), lane)
+        }
+        ExpressionKind::Sum | ExpressionKind::Difference | ExpressionKind::Less => {
+            let y = at(expressions, 3 * i + 2);
+            pair_value(kind, operand(values, x, i), operand(values, y, i))
+        }
     }
-    let y = at(expressions, 3 * i + 2);
-    let a = operand(values, x, i);
-    let b = operand(values, y, i);
-    pair_value(kind, a, b)
 }
 
-// The value of row `root` for a lane, with room for those of the rows before it; what the room holds does not count.
-fn evaluate(expressions: &[u32], root: usize, lane: u32, cells: &[u32], values: &mut [u32]) -> u32
-    requires { (root < most_expressions) × (root < length values.old) }
+// The value of row `root` for a lane, in a room of N values.
+fn evaluate<const N: usize>(expressions: &[u32], root: usize, lane: u32, cells: &[u32]) -> u32
+    requires { (root < most_expressions) × (root < N) × (N ≤ most_expressions) }
     ensures { AnswersValue expressions.now root lane cells.now result }
 {
-    let mut i = 0;
-    while i <= root {
-        values[i] = row_value(expressions, i, lane, cells, values);
-        i += 1;
+    let mut values = [0u32; N];
+    for i in 0..root + 1 {
+        values[i] = row_value(expressions, i, lane, cells, &values);
     }
     values[root]
 }
@@ -94,12 +96,10 @@ pub fn value(expressions: &[u32], root: usize, lane: u32, cells: &[u32]) -> u32
     ensures { AnswersValue expressions.now root lane cells.now result }
 {
     if root < FEW {
-        let mut values = [0u32; FEW];
-        return evaluate(expressions, root, lane, cells, &mut values);
+        return evaluate::<FEW>(expressions, root, lane, cells);
     }
     if root < Kernel::EXPRESSIONS {
-        let mut values = [0u32; Kernel::EXPRESSIONS];
-        return evaluate(expressions, root, lane, cells, &mut values);
+        return evaluate::<{ Kernel::EXPRESSIONS }>(expressions, root, lane, cells);
     }
     0
 }

@@ -1,10 +1,10 @@
 // The rows one after the other, for several lanes at once: in a room the values of row i stand from `i * count` on, a number a lane.
 ghost use Rattle.std.specs.Prelude.{◌≡◌, ℕ, ◌+◌, ◌*◌, ◌^◌, ◌<◌, ◌≤◌, length};
-ghost use Rattle.kernels.specs.Rows.{sum_expr};
+ghost use Rattle.kernels.specs.Rows.{sum_expr, expression_number};
 ghost use Rattle.values.specs.Needs.{strip_of, Strips, StripDone, CanFill, RowDone, Zeroed, Valued};
 
-use crate::rows::{at, leaf_value, pair_value};
-use kernels::Kernel;
+use crate::rows::{at, kind_at, leaf_value, pair_value};
+use kernels::ExpressionKind;
 
 // Where the values of operand x of row i begin: those of an earlier row, or else of row i itself, where nothing stands yet.
 fn strip(x: u32, i: usize, count: usize) -> usize
@@ -18,26 +18,22 @@ fn strip(x: u32, i: usize, count: usize) -> usize
 }
 
 // A row without operands.
-fn fill_leaf(values: &mut [u32], kind: u32, x: u32, held: u32, to: usize, count: usize)
-    requires { (kind < sum_expr) × (to + count ≤ length values.old) × (count ≤ 32) }
-    ensures { (a b : ℕ) → StripDone kind x held a b to count values.old values.new }
+fn fill_leaf(values: &mut [u32], kind: ExpressionKind, x: u32, held: u32, to: usize, count: usize)
+    requires { (expression_number kind < sum_expr) × (to + count ≤ length values.old) × (count ≤ 32) }
+    ensures { (a b : ℕ) → StripDone (expression_number kind) x held a b to count values.old values.new }
 {
-    let mut k = 0;
-    while k < count {
+    for k in 0..count {
         values[to + k] = leaf_value(kind, x, held, k as u32);
-        k += 1;
     }
 }
 
 // A row with operands, whose values stand from a and from b on.
-fn fill_pair(values: &mut [u32], kind: u32, a: usize, b: usize, to: usize, count: usize)
-    requires { (sum_expr ≤ kind) × Strips values.old a b to count }
-    ensures { (x held : ℕ) → StripDone kind x held a b to count values.old values.new }
+fn fill_pair(values: &mut [u32], kind: ExpressionKind, a: usize, b: usize, to: usize, count: usize)
+    requires { (sum_expr ≤ expression_number kind) × Strips values.old a b to count }
+    ensures { (x held : ℕ) → StripDone (expression_number kind) x held a b to count values.old values.new }
 {
-    let mut k = 0;
-    while k < count {
+    for k in 0..count {
         values[to + k] = pair_value(kind, values[a + k], values[b + k]);
-        k += 1;
     }
 }
 
@@ -46,17 +42,20 @@ fn fill_row(expressions: &[u32], i: usize, count: usize, cells: &[u32], values: 
     requires { CanFill values.old i count }
     ensures { RowDone expressions.now i count cells.now values.old values.new }
 {
-    let kind = at(expressions, 3 * i);
+    let kind = kind_at(expressions, i);
     let x = at(expressions, 3 * i + 1);
-    if kind < Kernel::SUM {
-        let held = at(cells, x as usize);
-        fill_leaf(values, kind, x, held, i * count, count);
-        return;
+    match kind {
+        ExpressionKind::Number | ExpressionKind::Cell | ExpressionKind::Lane => {
+            let held = at(cells, x as usize);
+            fill_leaf(values, kind, x, held, i * count, count);
+        }
+        ExpressionKind::Sum | ExpressionKind::Difference | ExpressionKind::Less => {
+            let y = at(expressions, 3 * i + 2);
+            let a = strip(x, i, count);
+            let b = strip(y, i, count);
+            fill_pair(values, kind, a, b, i * count, count);
+        }
     }
-    let y = at(expressions, 3 * i + 2);
-    let a = strip(x, i, count);
-    let b = strip(y, i, count);
-    fill_pair(values, kind, a, b, i * count, count);
 }
 
 // The rows up to `root`, for the first `count` lanes, into a room in which nothing stands.
@@ -70,9 +69,7 @@ pub(crate) fn fill_rows(
     requires { Zeroed values.old × CanFill values.old root count }
     ensures { Valued expressions.now root count cells.now values.new }
 {
-    let mut i = 0;
-    while i <= root {
+    for i in 0..root + 1 {
         fill_row(expressions, i, count, cells, values);
-        i += 1;
     }
 }

@@ -4,4 +4,4 @@ use Rattle.machine.proofs.rules.divide.Goals as goal
 
 pub returns : goal.returns
 returns c =
-    by_parting _ _ _ _ _ _ _ c.acting_of-acting.ensures _ _ _ _ _ c.put_token-joined.ensures.0 c.push_named-first.ensures.0 c.put_token-divided.ensures.0 c.push_named-height.ensures.0 c.leave_out-lanes.ensures
+    by_parting _ _ _ _ _ _ _ c.acting_of-acting.ensures _ _ _ _ _ c.put-joined.ensures.0 c.push_named-first.ensures.0 c.put-divided.ensures.0 c.push_named-height.ensures.0 c.leave_out-lanes.ensures

@@ -3,4 +3,4 @@ use Rattle.machine.proofs.Obeying.{by_looping}
 use Rattle.machine.proofs.rules.enter_loop.Goals as goal
 
 pub returns : goal.returns
-returns c = by_looping _ _ _ _ _ _ _ _ _ c.put_token-left.ensures.0 c.put_again-begun.ensures.0 c.repeat.ensures
+returns c = by_looping _ _ _ _ _ _ _ _ _ c.put-left.ensures.0 c.put-begun.ensures.0 c.repeat.ensures

@@ -7,6 +7,3 @@ use Rattle.machine.proofs.stack.push_list.Given as goal
 
 abbrev pub invariant-loop-i : goal.invariant-loop-i
 invariant-loop-i l = Piled l.code l.b (statements l.code) (length l.initial.stack) l.height (stack_in l.initial.stack l.height) l.stack l.i l.top
-
-abbrev pub decreases-loop-i : goal.decreases-loop-i
-decreases-loop-i l = l.i

@@ -6,11 +6,11 @@ use Rattle.values.proofs.rows.value.Goals as goal
 
 pub evaluate-requires : goal.evaluate-requires
 unfolding most_expressions
-evaluate-requires c = (omega arith, omega arith)
+evaluate-requires c = (omega arith, omega arith, omega arith)
 
 pub evaluate-requires-then-root-lt-EXPRESSIONS : goal.evaluate-requires-then-root-lt-EXPRESSIONS
 unfolding most_expressions
-evaluate-requires-then-root-lt-EXPRESSIONS c = (omega arith, omega arith)
+evaluate-requires-then-root-lt-EXPRESSIONS c = (omega arith, omega arith, omega arith)
 
 pub returns : goal.returns
 unfolding most_expressions

@@ -1,22 +1,20 @@
-use Rattle.std.proofs.Common.{refl, ◌∙◌, arith}
+use Rattle.std.proofs.Common.{arith}
 use Rattle.kernels.specs.Limits.{most_expressions}
 use Rattle.values.proofs.Several.{can_fill, laid_none, laid_more, laid_all}
 use Rattle.values.proofs.wide.fill_rows.Goals as goal
 
 pub loop-i-init : goal.loop-i-init
-loop-i-init c = (omega arith, refl, laid_none _ _ _ _ c.requires.0)
+loop-i-init c = laid_none _ _ _ _ c.requires.0
+
+pub overflow_add-i-end : goal.overflow_add-i-end
+unfolding most_expressions
+overflow_add-i-end c = let C = c.requires.1 in omega (arith, C.few)
 
 pub fill_row-requires : goal.fill_row-requires
-fill_row-requires c = can_fill c.requires.1 c.loop-i.invariant.1 c.loop-i-test.true
-
-pub overflow_add-i : goal.overflow_add-i
-unfolding most_expressions
-overflow_add-i c = omega arith
+fill_row-requires c = can_fill c.requires.1 (omega arith) (omega arith)
 
 pub loop-i-preserved : goal.loop-i-preserved
-loop-i-preserved c =
-    let l = c.loop-i in
-    (omega arith, c.fill_row.ensures.long ∙ l.invariant.1, laid_more _ _ _ _ _ l.invariant.2 _ c.fill_row.ensures)
+loop-i-preserved c = laid_more _ _ _ _ _ c.loop-i.invariant _ c.fill_row.ensures
 
 pub returns : goal.returns
-returns c = laid_all _ _ _ c.loop-i.invariant.2 c.loop-i-test.false c.requires.1
+returns c = laid_all _ _ _ c.loop-i.invariant (omega arith) c.requires.1
