@@ -6,7 +6,7 @@ use replay::write_schedule;
 use report::Conclusion;
 use review::review;
 use sheet::Sheet;
-use tables::Table;
+use tables::{Table, Tables};
 
 // What is concluded from a text, and how many numbers its two tables have; none where it is refused.
 #[derive(Clone, Copy)]
@@ -27,20 +27,15 @@ impl Full {
 }
 
 // Two tables judged by the schedule that the writer writes. Where it refuses them, so does the review.
-fn judge_tables(
-    commands: &[u32],
-    lengths: &[u32],
-    relation: &mut [u32],
-    generations: &mut [u32],
-) -> Conclusion
+fn judge_tables(tables: Tables, relation: &mut [u32], generations: &mut [u32]) -> Conclusion
     requires { FullRooms relation.old generations.old }
-    ensures { JudgesTables commands.now lengths.now relation.old generations.old
+    ensures { JudgesTables tables.entry.commands.now tables.entry.lengths.now relation.old generations.old
         result relation.new generations.new }
 {
     let mut schedule = [0u32; Table::ROWS];
-    let written = write_schedule(commands, lengths, &mut schedule);
+    let written = write_schedule(tables, &mut schedule);
     let steps = written.length;
-    let found = review(commands, lengths, &schedule[..steps], relation, generations);
+    let found = review(tables, &schedule[..steps], relation, generations);
     let verdict = found.verdict;
     let sheet = found.sheet;
     Conclusion {
@@ -75,8 +70,10 @@ pub(crate) fn conclude(
     let numbers = sizes.commands * 3;
     let threads = sizes.threads;
     let conclusion = judge_tables(
-        &commands[..numbers],
-        &lengths[..threads],
+        Tables {
+            commands: &commands[..numbers],
+            lengths: &lengths[..threads],
+        },
         relation,
         generations,
     );

@@ -8,7 +8,7 @@ use crate::conclusion::{Full, conclude};
 use exhibits::put_exhibits;
 use printing::Printer;
 use report::print;
-use tables::Table;
+use tables::{Table, Tables};
 
 mod conclusion; // a text read, scheduled and judged
 
@@ -76,8 +76,10 @@ pub fn review_text_evidence(text: &[u8], report: &mut [u8]) -> u32
     print(&mut out, conclusion);
     put_exhibits(
         &mut out,
-        &commands[..concluded.numbers],
-        &lengths[..concluded.threads],
+        Tables {
+            commands: &commands[..concluded.numbers],
+            lengths: &lengths[..concluded.threads],
+        },
         &generations,
         &relation,
         conclusion.told.number,

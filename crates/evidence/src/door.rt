@@ -11,6 +11,7 @@ use findings::{Finding, bare};
 use review::review;
 use rooms::{Room, refuse, short_room};
 use sheet::{Sheet, kept};
+use tables::Tables;
 use verdicts::{Refusal, Verdict};
 
 // What a review found, and how many entries of evidence were written.
@@ -26,35 +27,21 @@ impl Evidence {
 }
 
 // The schedules that show a verdict, from the front of the room; answers how many entries.
-fn show(
-    commands: &[u32],
-    lengths: &[u32],
-    relation: &[u32],
-    finding: Finding,
-    room: &mut [u32],
-) -> usize
-    requires { Showable commands.now lengths.now finding.sheet room.old }
+fn show(tables: Tables, relation: &[u32], finding: Finding, room: &mut [u32]) -> usize
+    requires { Showable tables.commands.now tables.lengths.now finding.sheet room.old }
     ensures { FilledBy
-        (evidence_in commands.now lengths.now relation.now (number finding) finding.sheet)
+        (evidence_in tables.entry.commands.now tables.entry.lengths.now relation.now (number finding) finding.sheet)
         room.old room.new result }
 {
     let sheet = finding.sheet;
     match finding.verdict {
         Verdict::Reuse(..) => {
             let pair = sheet.pairs[0];
-            write_at(
-                commands,
-                lengths,
-                relation,
-                pair.first,
-                pair.second,
-                room,
-                0,
-            )
+            write_at(tables, relation, pair.first, pair.second, room, 0)
         }
         Verdict::Race(..) => {
             let n = kept(sheet.total);
-            write_races(commands, lengths, relation, &sheet.pairs[..n], room)
+            write_races(tables, relation, &sheet.pairs[..n], room)
         }
         _ => 0,
     }
@@ -62,35 +49,28 @@ fn show(
 
 // The review, and the schedules that show verdicts 10 and 11, of tables and rooms that pass.
 fn review_shown(
-    commands: &[u32],
-    lengths: &[u32],
+    tables: Tables,
     schedule: &[u32],
     relation: &mut [u32],
     generations: &mut [u32],
     room: &mut [u32],
 ) -> Evidence
-    requires { Admissible commands.now lengths.now relation.old generations.old room.old }
-    ensures { Reviewed commands.now lengths.now schedule.now relation.old generations.old
+    requires { Admissible tables.commands.now tables.lengths.now relation.old generations.old room.old }
+    ensures { Reviewed tables.entry.commands.now tables.entry.lengths.now schedule.now relation.old generations.old
         result.finding relation.new generations.new
-        × HoldsEvidence commands.now lengths.now schedule.now room.old result room.new }
+        × HoldsEvidence tables.entry.commands.now tables.entry.lengths.now schedule.now room.old result room.new }
 {
-    let finding = review(commands, lengths, schedule, relation, generations);
-    let entries = show(commands, lengths, relation, finding, room);
+    let finding = review(tables, schedule, relation, generations);
+    let entries = show(tables, relation, finding, room);
     Evidence { finding, entries }
 }
 
 // 1 to 4, of tables and the lengths of the three rooms.
-fn refuse_showing(
-    commands: &[u32],
-    lengths: &[u32],
-    wide: usize,
-    high: usize,
-    given: usize,
-) -> Result<(), Refusal>
-    ensures { told_of result ≡ evidence_refusal commands.now lengths.now wide high given }
+fn refuse_showing(tables: Tables, wide: usize, high: usize, given: usize) -> Result<(), Refusal>
+    ensures { told_of result ≡ evidence_refusal tables.entry.commands.now tables.entry.lengths.now wide high given }
 {
-    refuse(commands, lengths, wide, high)?;
-    let needed = Evidence::ROOM * (commands.len() / 3);
+    refuse(tables, wide, high)?;
+    let needed = Evidence::ROOM * (tables.commands.len() / 3);
     short_room(&[Room {
         digit: 4,
         needed,
@@ -100,29 +80,22 @@ fn refuse_showing(
 
 // Any tables, any schedule, any rooms. All rooms are tested before one is touched.
 pub fn review_evidence(
-    commands: &[u32],
-    lengths: &[u32],
+    tables: Tables,
     schedule: &[u32],
     relation: &mut [u32],
     generations: &mut [u32],
     room: &mut [u32],
 ) -> Evidence
-    ensures { Evidenced commands.now lengths.now schedule.now
+    ensures { Evidenced tables.entry.commands.now tables.entry.lengths.now schedule.now
         relation.old generations.old room.old
         result relation.new generations.new room.new }
 {
-    let refusal = refuse_showing(
-        commands,
-        lengths,
-        relation.len(),
-        generations.len(),
-        room.len(),
-    );
+    let refusal = refuse_showing(tables, relation.len(), generations.len(), room.len());
     if let Err(refusal) = refusal {
         return Evidence {
             finding: bare(refusal.into()),
             entries: 0,
         };
     }
-    review_shown(commands, lengths, schedule, relation, generations, room)
+    review_shown(tables, schedule, relation, generations, room)
 }

@@ -16,85 +16,58 @@ use printing::Printer;
 use replay::write_apart;
 use rooms::admits;
 use sheet::{Sheet, kept};
-use tables::Table;
+use tables::{Table, Tables};
 use wording::{put_first, put_shown, put_steps};
 
 // The schedule in which d and what c does not reach go first, from the front of a room; answers its length.
-fn fill_apart(
-    commands: &[u32],
-    lengths: &[u32],
-    relation: &[u32],
-    c: usize,
-    d: usize,
-    room: &mut [u32],
-) -> usize
-    requires { Keeps commands.now lengths.now × (rows commands.now ≤ length room.old) }
+fn fill_apart(tables: Tables, relation: &[u32], c: usize, d: usize, room: &mut [u32]) -> usize
+    requires { Keeps tables.commands.now tables.lengths.now × (rows tables.commands.now ≤ length room.old) }
     ensures { FilledBy
-        (apart_schedule commands.now lengths.now (related relation.now (rows commands.now)) c d)
+        (apart_schedule tables.entry.commands.now tables.entry.lengths.now (related relation.now (rows tables.entry.commands.now)) c d)
         room.old room.new result }
 {
-    let written = write_apart(commands, lengths, relation, c, d, room);
+    let written = write_apart(tables, relation, c, d, room);
     written.length
 }
 
 // Two tables that pass, with the generation of each command and what it reaches.
 #[derive(Clone, Copy)]
 struct Admitted<'a> {
-    commands: &'a [u32],
-    lengths: &'a [u32],
+    tables: Tables<'a>,
     generations: &'a [u32],
     relation: &'a [u32],
-    ghost roomy: { Roomy commands.now lengths.now generations.now relation.now },
+    ghost roomy: { Roomy tables.commands.now tables.lengths.now generations.now relation.now },
 }
 
 impl Admitted<'_> {
     // Of a race, x first.
     fn put_way(&self, out: &mut Printer<'_>, x: usize, y: usize)
-        ensures { Puts out.old out.new (order_exhibit self.now.commands.now self.now.lengths.now
-            (related self.now.relation.now (rows self.now.commands.now)) x y) }
+        ensures { Puts out.old out.new (order_exhibit self.now.tables.commands.now self.now.tables.lengths.now
+            (related self.now.relation.now (rows self.now.tables.commands.now)) x y) }
     {
         let mut schedule = [0u32; Table::ROWS];
-        let steps = fill_apart(
-            self.commands,
-            self.lengths,
-            self.relation,
-            y,
-            x,
-            &mut schedule,
-        );
+        let steps = fill_apart(self.tables, self.relation, y, x, &mut schedule);
         put_first(out, x, y);
         put_steps(out, &schedule[..steps]);
     }
 
     // Of a reuse fault (c, d), judged against the generations.
     fn put_reuse(&self, out: &mut Printer<'_>, c: usize, d: usize)
-        ensures { Puts out.old out.new (reuse_exhibit self.now.commands.now self.now.lengths.now
-            (related self.now.relation.now (rows self.now.commands.now))
+        ensures { Puts out.old out.new (reuse_exhibit self.now.tables.commands.now self.now.tables.lengths.now
+            (related self.now.relation.now (rows self.now.tables.commands.now))
             (number_at self.now.generations.now) (pair c d)) }
     {
         let mut schedule = [0u32; Table::ROWS];
-        let steps = fill_apart(
-            self.commands,
-            self.lengths,
-            self.relation,
-            c,
-            d,
-            &mut schedule,
-        );
-        let shown = shown_by(
-            self.commands,
-            self.lengths,
-            self.generations,
-            &schedule[..steps],
-        );
+        let steps = fill_apart(self.tables, self.relation, c, d, &mut schedule);
+        let shown = shown_by(self.tables, self.generations, &schedule[..steps]);
         put_shown(out, shown);
         put_steps(out, &schedule[..steps]);
     }
 
     // Of each pair that a sheet keeps, both ways.
     fn put_races(&self, out: &mut Printer<'_>, sheet: Sheet)
-        ensures { Puts out.old out.new (race_exhibits self.now.commands.now self.now.lengths.now
-            (related self.now.relation.now (rows self.now.commands.now)) (kept_pairs sheet)) }
+        ensures { Puts out.old out.new (race_exhibits self.now.tables.commands.now self.now.tables.lengths.now
+            (related self.now.relation.now (rows self.now.tables.commands.now)) (kept_pairs sheet)) }
     {
         for pair in &sheet.pairs[..kept(sheet.total)] {
             let (x, y) = (pair.first, pair.second);
@@ -107,22 +80,20 @@ impl Admitted<'_> {
 // Any tables, any rooms, any verdict's number and sheet: the exhibits.
 pub fn put_exhibits(
     out: &mut Printer<'_>,
-    commands: &[u32],
-    lengths: &[u32],
+    tables: Tables,
     generations: &[u32],
     relation: &[u32],
     number: u32,
     sheet: Sheet,
 )
     ensures { Puts out.old out.new
-        (exhibited commands.now lengths.now generations.now relation.now number sheet) }
+        (exhibited tables.entry.commands.now tables.entry.lengths.now generations.now relation.now number sheet) }
 {
-    if !admits(commands, lengths, relation.len(), generations.len()) {
+    if !admits(tables, relation.len(), generations.len()) {
         return;
     }
     let admitted = Admitted {
-        commands,
-        lengths,
+        tables,
         generations,
         relation,
     };

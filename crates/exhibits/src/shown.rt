@@ -5,7 +5,7 @@ ghost use Rattle.exhibits.specs.Shown.{other_generation_of, what_is_shown};
 ghost use Rattle.exhibits.specs.Needs.{Ended, Offered};
 
 use replay::judge;
-use tables::Table;
+use tables::{Table, Tables};
 use verdicts::Told;
 use wording::Shown;
 
@@ -17,10 +17,10 @@ struct End {
 }
 
 // The judge's verdict by its number: a caller of this is spared the verdict.
-fn end_of(commands: &[u32], lengths: &[u32], schedule: &[u32]) -> End
-    ensures { Ended commands.now lengths.now schedule.now result }
+fn end_of(tables: Tables, schedule: &[u32]) -> End
+    ensures { Ended tables.entry.commands.now tables.entry.lengths.now schedule.now result }
 {
-    let judged = judge(commands, lengths, schedule);
+    let judged = judge(tables, schedule);
     let verdict = judged.verdict;
     let generations = judged.generations;
     End {
@@ -43,20 +43,15 @@ fn other_generation(found: &[u32], offered: &[u32], m: usize) -> Shown
 }
 
 // What a schedule shows against the generations offered.
-pub(crate) fn shown_by(
-    commands: &[u32],
-    lengths: &[u32],
-    generations: &[u32],
-    schedule: &[u32],
-) -> Shown
-    requires { Offered commands.now lengths.now generations.now }
-    ensures { result ≡ what_is_shown commands.now lengths.now (number_at generations.now) schedule.now }
+pub(crate) fn shown_by(tables: Tables, generations: &[u32], schedule: &[u32]) -> Shown
+    requires { Offered tables.commands.now tables.lengths.now generations.now }
+    ensures { result ≡ what_is_shown tables.entry.commands.now tables.entry.lengths.now (number_at generations.now) schedule.now }
 {
-    let end = end_of(commands, lengths, schedule);
+    let end = end_of(tables, schedule);
     match end.told.number {
         7 => Shown::Mismatch(end.told.place),
         8 => Shown::Deadlock(end.told.place),
         9 => Shown::LeftSet(end.told.place),
-        _ => other_generation(&end.generations, generations, commands.len() / 3),
+        _ => other_generation(&end.generations, generations, tables.commands.len() / 3),
     }
 }

@@ -13,7 +13,7 @@ use crate::searched::Searched;
 use faults::Fault;
 use rooms::refuse_sizes;
 use sheet::Sheet;
-use tables::{Table, put_heads};
+use tables::{Table, Tables, put_heads};
 use verdicts::Verdict;
 
 #[derive(Clone, Copy)]
@@ -70,14 +70,14 @@ fn look(searched: &Searched) -> Finding
 }
 
 // The same of the tables, by the heads of their rows.
-fn look_over(commands: &[u32], lengths: &[u32], generations: &[u32], relation: &[u32]) -> Finding
-    requires { (rows commands.now ≤ most_rows) × (rows commands.now ≤ length generations.now) }
-    ensures { LookedOver commands.now lengths.now generations.now relation.now result }
+fn look_over(tables: Tables, generations: &[u32], relation: &[u32]) -> Finding
+    requires { (rows tables.commands.now ≤ most_rows) × (rows tables.commands.now ≤ length generations.now) }
+    ensures { LookedOver tables.entry.commands.now tables.entry.lengths.now generations.now relation.now result }
 {
     let mut heads = [0; Table::ROWS];
-    put_heads(lengths, &mut heads);
+    put_heads(tables.lengths, &mut heads);
     look(&Searched {
-        commands,
+        commands: tables.commands,
         generations,
         relation,
         heads: &heads,
@@ -86,15 +86,14 @@ fn look_over(commands: &[u32], lengths: &[u32], generations: &[u32], relation: &
 
 // Any numbers as tables, as generations, as a table of what reaches what. Only lengths are refused, and the rooms are only read.
 pub fn find_faults(
-    commands: &[u32],
-    lengths: &[u32],
+    tables: Tables,
     generations: &[u32],
     relation: &[u32],
 ) -> Finding
-    ensures { Finds commands.now lengths.now generations.now relation.now result }
+    ensures { Finds tables.entry.commands.now tables.entry.lengths.now generations.now relation.now result }
 {
-    if let Err(refusal) = refuse_sizes(commands, relation.len(), generations.len()) {
+    if let Err(refusal) = refuse_sizes(tables.commands, relation.len(), generations.len()) {
         return bare(refusal.into());
     }
-    look_over(commands, lengths, generations, relation)
+    look_over(tables, generations, relation)
 }

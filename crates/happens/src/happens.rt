@@ -9,17 +9,18 @@ use crate::leaders::{SEATS, choose};
 use crate::pairs::{NUMBERS, put_pairs};
 use rooms::refuse_sizes;
 use sweeps::put_reach;
-use tables::{Table, put_heads};
+use tables::{Table, Tables, put_heads};
 use verdicts::Refusal;
 
 // The rooms suffice: pairs are listed, and what they reach is happens-before. A seat that nobody takes holds no row's number.
-fn put_reached(commands: &[u32], lengths: &[u32], generations: &[u32], relation: &mut [u32])
-    requires { Ample commands.now (length relation.old) (length generations.now) }
-    ensures { Reached commands.now lengths.now (number_at generations.now)
+fn put_reached(tables: Tables, generations: &[u32], relation: &mut [u32])
+    requires { Ample tables.commands.now (length relation.old) (length generations.now) }
+    ensures { Reached tables.entry.commands.now tables.entry.lengths.now (number_at generations.now)
         relation.old relation.new }
 {
+    let commands = tables.commands;
     let mut heads = [0; Table::ROWS];
-    put_heads(lengths, &mut heads);
+    put_heads(tables.lengths, &mut heads);
     let mut leaders = [Table::ROWS as u16; SEATS];
     choose(commands, generations, &mut leaders);
     let mut pairs = [0u32; NUMBERS];
@@ -37,14 +38,13 @@ fn put_reached(commands: &[u32], lengths: &[u32], generations: &[u32], relation:
 
 // Happens-before over the generations, into any room. A refusal leaves the room as it was.
 pub fn put_happens_before(
-    commands: &[u32],
-    lengths: &[u32],
+    tables: Tables,
     generations: &[u32],
     relation: &mut [u32],
 ) -> Result<(), Refusal>
-    ensures { PutsHappensBefore commands.now lengths.now generations.now relation.old result relation.new }
+    ensures { PutsHappensBefore tables.entry.commands.now tables.entry.lengths.now generations.now relation.old result relation.new }
 {
-    refuse_sizes(commands, relation.len(), generations.len())?;
-    put_reached(commands, lengths, generations, relation);
+    refuse_sizes(tables.commands, relation.len(), generations.len())?;
+    put_reached(tables, generations, relation);
     Ok(())
 }

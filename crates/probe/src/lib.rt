@@ -10,6 +10,7 @@ use evidence::review_evidence;
 use notation::{Sizes, read, rest, told};
 use replay::write_schedule;
 use runs::run_kernel;
+use tables::Tables;
 use verdicts::Told;
 
 mod answer; // numbers into the answer room
@@ -32,7 +33,13 @@ pub extern "C" fn probe_review(
     if answer.len() < Answer::NUMBERS {
         return 14;
     }
-    let shown = review_evidence(commands, lengths, schedule, relation, generations, evidence);
+    let shown = review_evidence(
+        Tables { commands, lengths },
+        schedule,
+        relation,
+        generations,
+        evidence,
+    );
     let found = shown.finding;
     let verdict = found.verdict;
     let sheet = found.sheet;
@@ -56,7 +63,7 @@ pub extern "C" fn probe_schedule(
     if answer.len() < Answer::NUMBERS {
         return 14;
     }
-    let written = write_schedule(commands, lengths, room);
+    let written = write_schedule(Tables { commands, lengths }, room);
     let verdict = written.verdict;
     let told = verdict.told();
     put_told(answer, told, written.length, 0);

@@ -5,7 +5,7 @@ ghost use Rattle.steps.specs.Ending.{judged};
 ghost use Rattle.replay.specs.Doors.{Replays};
 
 use steps::{Replayed, go_on};
-use tables::Table;
+use tables::{Table, Tables};
 use verdicts::Verdict;
 
 // A verdict, and the generation of each command that ran.
@@ -26,11 +26,11 @@ fn conclude(replayed: Replayed, lengths: &[u32]) -> Verdict
 }
 
 // Any tables, any schedule: 5 to 9, or 0. The tables are not checked, and nothing is written.
-pub fn judge(commands: &[u32], lengths: &[u32], schedule: &[u32]) -> Judged
-    ensures { Replays commands.now lengths.now schedule.now result }
+pub fn judge(tables: Tables, schedule: &[u32]) -> Judged
+    ensures { Replays tables.entry.commands.now tables.entry.lengths.now schedule.now result }
 {
-    let replayed = go_on(Replayed::start(), commands, lengths, schedule);
-    let verdict = conclude(replayed, lengths);
+    let replayed = go_on(Replayed::start(), tables.commands, tables.lengths, schedule);
+    let verdict = conclude(replayed, tables.lengths);
     let generations = replayed.generations;
     Judged {
         verdict,

@@ -9,36 +9,37 @@ use relation::related;
 use rooms::{Room, short_room};
 use rules::check_tables;
 use steps::{Replay, write_on};
-use tables::Table;
+use tables::{Table, Tables};
 use verdicts::Refusal;
 
 // The schedule in which the commands of a list go first, into the room, and its length: refusals 1 to 4 come first. No schedule has more than M steps.
-fn write_first(
-    commands: &[u32],
-    lengths: &[u32],
-    early: &[bool],
-    room: &mut [u32],
-) -> Result<usize, Refusal>
+fn write_first(tables: Tables, early: &[bool], room: &mut [u32]) -> Result<usize, Refusal>
     ensures { WritesBy
-        (first_schedule early.now commands.now lengths.now)
-        commands.now lengths.now room.old room.new result }
+        (first_schedule early.now tables.entry.commands.now tables.entry.lengths.now)
+        tables.entry.commands.now tables.entry.lengths.now room.old room.new result }
 {
-    check_tables(commands, lengths)?;
-    let m = commands.len() / 3;
+    check_tables(tables)?;
+    let m = tables.commands.len() / 3;
     short_room(&[Room {
         digit: 2,
         needed: m,
         given: room.len(),
     }])?;
-    let length = write_on(Replay::start(), commands, lengths, early, &mut room[..m]);
+    let length = write_on(
+        Replay::start(),
+        tables.commands,
+        tables.lengths,
+        early,
+        &mut room[..m],
+    );
     Ok(length)
 }
 
 // No command goes first: always the lowest allowed thread steps.
-pub fn write_schedule(commands: &[u32], lengths: &[u32], room: &mut [u32]) -> Result<usize, Refusal>
-    ensures { WritesSchedule commands.now lengths.now room.old room.new result }
+pub fn write_schedule(tables: Tables, room: &mut [u32]) -> Result<usize, Refusal>
+    ensures { WritesSchedule tables.entry.commands.now tables.entry.lengths.now room.old room.new result }
 {
-    write_first(commands, lengths, &[], room)
+    write_first(tables, &[], room)
 }
 
 // The rows of tables that pass are few, and so are their commands. Tables with more are refused, and what is no command reaches nothing.
@@ -60,17 +61,16 @@ fn put_apart(relation: &[u32], m: u32, c: u32, d: usize, early: &mut [bool])
 
 // d and what c does not reach in a table of what reaches what go first, as far as they can.
 pub fn write_apart(
-    commands: &[u32],
-    lengths: &[u32],
+    tables: Tables,
     relation: &[u32],
     c: usize,
     d: usize,
     room: &mut [u32],
 ) -> Result<usize, Refusal>
-    ensures { WritesApart commands.now lengths.now relation.now c d room.old room.new result }
+    ensures { WritesApart tables.entry.commands.now tables.entry.lengths.now relation.now c d room.old room.new result }
 {
     let mut early = [false; Table::ROWS];
-    let m = few(commands.len() / 3);
+    let m = few(tables.commands.len() / 3);
     put_apart(relation, m, few(c), d, &mut early);
-    write_first(commands, lengths, &early, room)
+    write_first(tables, &early, room)
 }

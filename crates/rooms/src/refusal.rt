@@ -4,6 +4,7 @@ ghost use Rattle.rooms.specs.Promise.{AnswersRefuseSizes, AnswersRefuse, Answers
 use crate::short::{Room, short_room};
 use relation::table_words;
 use rules::{bad_commands, check_tables};
+use tables::Tables;
 use verdicts::Refusal;
 
 // 1 and 4, of the lengths alone: no table is gone through.
@@ -29,16 +30,16 @@ pub fn refuse_sizes(commands: &[u32], wide: usize, high: usize) -> Result<(), Re
 }
 
 // 1 to 4, of tables and the lengths of the two rooms.
-pub fn refuse(commands: &[u32], lengths: &[u32], wide: usize, high: usize) -> Result<(), Refusal>
-    ensures { AnswersRefuse commands.now lengths.now wide high result }
+pub fn refuse(tables: Tables, wide: usize, high: usize) -> Result<(), Refusal>
+    ensures { AnswersRefuse tables.entry.commands.now tables.entry.lengths.now wide high result }
 {
-    check_tables(commands, lengths)?;
-    refuse_sizes(commands, wide, high)
+    check_tables(tables)?;
+    refuse_sizes(tables.commands, wide, high)
 }
 
 // Are tables and rooms admitted, which is to say not refused? Callers that only go on, or not, are spared the refusal.
-pub fn admits(commands: &[u32], lengths: &[u32], wide: usize, high: usize) -> bool
-    ensures { AnswersAdmits commands.now lengths.now wide high result }
+pub fn admits(tables: Tables, wide: usize, high: usize) -> bool
+    ensures { AnswersAdmits tables.entry.commands.now tables.entry.lengths.now wide high result }
 {
-    refuse(commands, lengths, wide, high).is_ok()
+    refuse(tables, wide, high).is_ok()
 }

@@ -6,7 +6,7 @@ ghost use Rattle.rules.specs.Rules.{does_row_keep};
 ghost use Rattle.rules.specs.Needs.{first_broken};
 ghost use Rattle.rules.specs.Promise.{AnswersBadCommands, AnswersCheckTables};
 
-use tables::{Table, first_row};
+use tables::{Table, Tables, first_row};
 use verdicts::Refusal;
 
 // Does a row keep the rules, in a table of so many threads?
@@ -30,7 +30,8 @@ fn first_bad(commands: &[u32], threads: usize) -> Option<usize>
     ensures { result ≡ first_broken commands.now threads }
 {
     let (rows, _) = commands.as_chunks::<3>();
-    rows.iter().position(|row| !keeps_rules(threads, row[0], row[1], row[2]))
+    rows.iter()
+        .position(|row| !keeps_rules(threads, row[0], row[1], row[2]))
 }
 
 // Are the command numbers no multiple of 3, or the rows too many? No row is looked at.
@@ -45,21 +46,22 @@ pub fn bad_commands(commands: &[u32]) -> bool
 }
 
 // Refusals 1, 2 and 3, in the order tested.
-pub fn check_tables(commands: &[u32], lengths: &[u32]) -> Result<(), Refusal>
-    ensures { AnswersCheckTables commands.now lengths.now result }
+pub fn check_tables(tables: Tables) -> Result<(), Refusal>
+    ensures { AnswersCheckTables tables.entry.commands.now tables.entry.lengths.now result }
 {
+    let commands = tables.commands;
     if bad_commands(commands) {
         return Err(Refusal::BadCommands);
     }
     let m = commands.len() / 3;
-    let threads = lengths.len();
+    let threads = tables.lengths.len();
     if threads == 0 {
         return Err(Refusal::BadLengths);
     }
     if Table::THREADS < threads {
         return Err(Refusal::BadLengths);
     }
-    if first_row(lengths, threads) != m {
+    if first_row(tables.lengths, threads) != m {
         return Err(Refusal::BadLengths);
     }
     if let Some(row) = first_bad(commands, threads) {

@@ -33,22 +33,22 @@ pub returns-then-first_row-m : goal.returns-then-first_row-m
 unfolding most_threads
 returns-then-first_row-m c =
     let a = c.args in
-    let sum = added a.lengths.now (omega arith) c.first_row.ensures in
+    let sum = added a.tables.lengths.now (omega arith) c.first_row.ensures in
     sym (refuses_sum _ _ (sym c.bad_commands.ensures ∙ c.if-bad_commands.false) (λ e. c.if-first_row-m.true (sum ∙ e)))
 
 pub returns-in-Some : goal.returns-in-Some
 unfolding most_threads
 returns-in-Some c =
     let a = c.args in
-    let sum = sym (added a.lengths.now (omega arith) c.first_row.ensures) ∙ c.if-first_row-m.false in
-    let bad = rw (← c.in-Some.ensures) at (first_broken_is a.commands.now (length a.lengths.now)) in
+    let sum = sym (added a.tables.lengths.now (omega arith) c.first_row.ensures) ∙ c.if-first_row-m.false in
+    let bad = rw (← c.in-Some.ensures) at (first_broken_is a.tables.commands.now (length a.tables.lengths.now)) in
     ap (λ (c : ℕ). tell 3 c 0) bad.1
-    ∙ sym (refuses_row a.commands.now a.lengths.now (sym c.bad_commands.ensures ∙ c.if-bad_commands.false) (omega arith) (omega arith) sum (omega (arith, bad)))
+    ∙ sym (refuses_row a.tables.commands.now a.tables.lengths.now (sym c.bad_commands.ensures ∙ c.if-bad_commands.false) (omega arith) (omega arith) sum (omega (arith, bad)))
 
 pub returns : goal.returns
 unfolding most_threads
 returns c =
     let a = c.args in
-    let sum = sym (added a.lengths.now (omega arith) c.first_row.ensures) ∙ c.if-first_row-m.false in
-    let none = rw (← c.in_default.ensures) at (first_broken_is a.commands.now (length a.lengths.now)) in
-    sym (refuses_none a.commands.now a.lengths.now (sym c.bad_commands.ensures ∙ c.if-bad_commands.false) (omega arith) (omega arith) sum none)
+    let sum = sym (added a.tables.lengths.now (omega arith) c.first_row.ensures) ∙ c.if-first_row-m.false in
+    let none = rw (← c.in_default.ensures) at (first_broken_is a.tables.commands.now (length a.tables.lengths.now)) in
+    sym (refuses_none a.tables.commands.now a.tables.lengths.now (sym c.bad_commands.ensures ∙ c.if-bad_commands.false) (omega arith) (omega arith) sum none)

@@ -17,7 +17,7 @@ pub overflow_mul-needed : goal.overflow_mul-needed
 unfolding most_rows
 overflow_mul-needed c =
     let a = c.args in
-    let A = admitted a.commands.now a.lengths.now a.wide a.high (ap (λ (t : Told). t.number) (sym c.in_ok-refuse.ensures)) in
+    let A = admitted a.tables.commands.now a.tables.lengths.now a.wide a.high (ap (λ (t : Told). t.number) (sym c.in_ok-refuse.ensures)) in
     record { fits = omega (arith, A.keeps.few_rows) }
 
 pub returns : goal.returns

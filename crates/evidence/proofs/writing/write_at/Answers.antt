@@ -12,7 +12,7 @@ pub overflow_add-result : goal.overflow_add-result
 overflow_add-result c =
     let a = c.args in
     let W = rw c.unwrap.ensures at c.write_apart.ensures in
-    let l = wrote_few c.requires W.wrote (apart_few a.commands.now a.lengths.now (related a.relation.now (rows a.commands.now)) a.c a.d) in
+    let l = wrote_few c.requires W.wrote (apart_few a.tables.commands.now a.tables.lengths.now (related a.relation.now (rows a.tables.commands.now)) a.c a.d) in
     record { fits = omega (arith, l, c.requires.fits) }
 
 pub returns : goal.returns

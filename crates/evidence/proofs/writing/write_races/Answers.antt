@@ -15,4 +15,4 @@ pub loop-pair-preserved : goal.loop-pair-preserved
 loop-pair-preserved c = racing_more _ _ _ _ _ c.loop-pair.invariant c.loop-pair-test.true c.write_at-at.ensures c.write_at-at-in-loop-pair.ensures
 
 pub returns : goal.returns
-returns c = racing_end c.args.commands.now c.args.lengths.now _ c.args.pairs.now c.args.room.now c.loop-pair.invariant (omega arith)
+returns c = racing_end c.args.tables.commands.now c.args.tables.lengths.now _ c.args.pairs.now c.args.room.now c.loop-pair.invariant (omega arith)

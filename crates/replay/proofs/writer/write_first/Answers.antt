@@ -34,6 +34,6 @@ returns c =
     record {
       refusal = c.in_ok-short_room.ensures ∙ unwritten_room _ _ _ c.in_ok-check_tables.ensures;
       refused = tt;
-      wrote = wrote_first a.early.now a.commands.now a.lengths.now a.room.now c.start.ensures room c.write_on-length.ensures;
+      wrote = wrote_first a.early.now a.tables.commands.now a.tables.lengths.now a.room.now c.start.ensures room c.write_on-length.ensures;
       complete = first_complete (passes _ _ (sym c.in_ok-check_tables.ensures)) _;
     }

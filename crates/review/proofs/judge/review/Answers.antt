@@ -23,7 +23,7 @@ returns c =
     let pass = passes c.in_default.ensures in
     let A = admitted _ _ _ _ pass in
     let g = c.judge-judged.result.generations in
-    let few : rows c.args.commands.now ≤ length g = search (rules, A.keeps.few_rows) in
+    let few : rows c.args.tables.commands.now ≤ length g = search (rules, A.keeps.few_rows) in
     reviewed_filled _ _ _ _ _ pass c.judge-judged.ensures c.in-Clean.is
     (put_is g _ _ _ c.copy_from_slice.ensures.after few) (put_long g _ _ _ c.copy_from_slice.ensures.after few A.generations_fit)
     c.put_happens_before.ensures c.find_faults.ensures
@@ -51,7 +51,7 @@ unfolding most_rows
 copy_from_slice-requires c =
     let A = admitted _ _ _ _ (passes c.in_default.ensures) in
     let g = c.judge-judged.result.generations in
-    let few : rows c.args.commands.now ≤ length g = search (rules, A.keeps.few_rows) in
+    let few : rows c.args.tables.commands.now ≤ length g = search (rules, A.keeps.few_rows) in
     length-take-le _ _ A.generations_fit ∙ sym (length-take-le _ _ few)
 
 pub unwrap-requires : goal.unwrap-requires
@@ -60,5 +60,5 @@ unwrap-requires c =
     let pass = passes c.in_default.ensures in
     let A = admitted _ _ _ _ pass in
     let g = c.judge-judged.result.generations in
-    let few : rows c.args.commands.now ≤ length g = search (rules, A.keeps.few_rows) in
+    let few : rows c.args.tables.commands.now ≤ length g = search (rules, A.keeps.few_rows) in
     happens _ _ c.args.schedule.now _ _ pass (put_long g _ _ _ c.copy_from_slice.ensures.after few A.generations_fit) c.put_happens_before.ensures

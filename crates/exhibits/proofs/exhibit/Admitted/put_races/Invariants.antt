@@ -9,5 +9,5 @@ use Rattle.exhibits.proofs.exhibit.Admitted.put_races.Given as goal
 abbrev pub invariant-loop-pair : goal.invariant-loop-pair
 invariant-loop-pair l =
     let t = l.self in
-    let ρ = related t.relation.now (rows t.commands.now) in
-    Along l.initial.out l.out (race_exhibits t.commands.now t.lengths.now ρ l.pair-items) (race_exhibits t.commands.now t.lengths.now ρ (drop l.pair-index l.pair-items))
+    let ρ = related t.relation.now (rows t.tables.commands.now) in
+    Along l.initial.out l.out (race_exhibits t.tables.commands.now t.tables.lengths.now ρ l.pair-items) (race_exhibits t.tables.commands.now t.tables.lengths.now ρ (drop l.pair-index l.pair-items))
