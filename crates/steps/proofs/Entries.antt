@@ -10,7 +10,6 @@ use lib.ListN.{length, get_or, set, drop}
 use lib.Seq.{drop-cons, drop-nil}
 use borrow.Author.Tests.{eq-eqb, ne_eqb}
 use Rattle.verdicts.specs.Verdicts.{numbered}
-use Rattle.verdicts.specs.declared.Told.{Told}
 use Rattle.verdicts.specs.declared.Verdict.TheVariants as verdict
 use Rattle.verdicts.proofs.Verdicts.{zero_clean}
 use Rattle.steps.specs.declared.change.Change.{Change}
@@ -46,16 +45,13 @@ module _ (commands lengths : List ℕ) where
   unfolding one_step_on
   one_on r t z e f = rw (eq-eqb (numbered r.verdict).number 0 z, e, f)
 
-  -- by what is told of the verdict so far
-  module _ (σ : List ℕ) (r : Replayed) {told : Told} (said : told ≡ numbered r.verdict) where
-    number_is : told.number ≡ (numbered r.verdict).number
-    number_is = ap (λ (t : Told). t.number) said
+  -- by the verdict so far
+  module _ (σ : List ℕ) (r : Replayed) where
+    pub goes_ended : r.verdict ≢ verdict.Clean → r ≡ go_on commands lengths σ r
+    goes_ended n = sym (stays_ended r (λ z. n (zero_clean r.verdict z)) σ)
 
-    pub goes_ended : told.number ≢ 0 → r ≡ go_on commands lengths σ r
-    goes_ended n = sym (stays_ended r (λ z. n (number_is ∙ z)) σ)
-
-    pub goes_open : told.number ≡ 0 → go_on commands lengths σ (standing r.state r.generations r.steps verdict.Clean) ≡ go_on commands lengths σ r
-    goes_open z = rw (zero_clean r.verdict (sym number_is ∙ z))
+    pub goes_open : r.verdict ≡ verdict.Clean → go_on commands lengths σ (standing r.state r.generations r.steps verdict.Clean) ≡ go_on commands lengths σ r
+    goes_open z = rw z
 
 -- ---- the loop over entries
 

@@ -14,8 +14,8 @@ use Rattle.tables.specs.Limits.{most_threads}
 use Rattle.sets.specs.declared.Set.{Set}
 use Rattle.sets.specs.Set.{has_but}
 use Rattle.turns.specs.declared.ready.Ready.{Ready}
-use Rattle.turns.specs.Turns.{settled, has_any_left, may_step, does_go_first}
-use Rattle.turns.specs.Ready.{looked, held_after, chosen}
+use Rattle.turns.specs.Turns.{settled, has_any_left, may_step, does_go_first, lowest_or}
+use Rattle.turns.specs.Ready.{looked, held_after}
 use Rattle.turns.proofs.Turns.{left_so}
 use Rattle.turns.proofs.Kept.{Kept, kept_more, but_left, but_first, or_bound, or_there, or_bound_none}
 use Rattle.steps.specs.declared.change.Change.{Change}
@@ -67,7 +67,7 @@ module _ (early : List Bool) (commands lengths before : List ℕ) (from : Replay
     unfolding picked
     first_both t e = in_both t (both (allowed lengths s t) _ e).0
 
-    module _ (l : i < length before) {t : ℕ} (is : t ≡ chosen r blocked) where
+    module _ (l : i < length before) {t : ℕ} (is : t ≡ lowest_or (has_but r.first blocked) (has_but r.left blocked) most_threads) where
       left : length before - i ≡ suc (length before - (i + 1))
       left = omega arith
 

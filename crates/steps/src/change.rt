@@ -27,6 +27,7 @@ fn still(did: Did, after: Barrier) -> Change
     }
 }
 
+#[tactic(auto, unfolding(tables::specs::Limits::barriers, tables::specs::Limits::most_threads))]
 fn wait_if(syncs: bool, b: usize) -> u32
     requires { b < barriers }
     ensures { result ≡ wait_of syncs b }

@@ -5,13 +5,14 @@ ghost use Rattle.steps.specs.Going.{standing};
 ghost use Rattle.steps.specs.Promise.{AnswersReplayedStart, AnswersGoOn};
 
 use crate::change::run_row;
-use crate::firsts::{first_at, first_rows};
+use crate::firsts::first_rows;
 use crate::row::thread_row;
 use crate::state::Replay;
 use crate::step::{Did, How};
 use barriers::more;
+use relation::at;
 use tables::Table;
-use turns::{at, put, settle};
+use turns::{put, settle};
 use verdicts::Verdict;
 
 // Where a replay has come to: the state, each command's generation, the steps that ran, and 5, 7 or, if all ran, 0.
@@ -53,7 +54,7 @@ pub fn go_on(from: Replayed, commands: &[u32], lengths: &[u32], entries: &[u32])
     ensures { AnswersGoOn from commands.now lengths.now entries.now result }
 {
     let verdict = from.verdict;
-    if verdict.told().number != 0 {
+    if !matches!(verdict, Verdict::Clean) {
         return from;
     }
     let state = from.state;
@@ -62,6 +63,7 @@ pub fn go_on(from: Replayed, commands: &[u32], lengths: &[u32], entries: &[u32])
 }
 
 // The steps of entries, from a point where the replay has not ended.
+#[tactic(auto, unfolding(tables::specs::Limits::barriers, tables::specs::Limits::most_rows))]
 fn play(
     from: Replay,
     before: [u32; Table::ROWS],
@@ -76,12 +78,11 @@ fn play(
     let mut state = from;
     let mut generations = before;
     let mut steps = ran;
-    let mut i = 0;
-    while i < entries.len() {
-        let t = entries[i] as usize;
-        let n = at(&state.next, t);
-        let wait = at(&state.waits, t);
-        let row = thread_row(commands, lengths, t, first_at(&firsts, t), n, wait);
+    for entry in entries {
+        let t = *entry as usize;
+        let n = at(&state.next, t, 0);
+        let wait = at(&state.waits, t, 0);
+        let row = thread_row(commands, lengths, t, at(&firsts, t, 0), n, wait);
         let b = row.barrier;
         let barrier = state.barriers[b];
         let made = run_row(row, barrier);
@@ -107,7 +108,6 @@ fn play(
         state.next[t] = n + 1;
         settle(&mut state.waits, t, made.wait, made.frees);
         steps = more(steps);
-        i += 1;
     }
     stop(state, generations, steps, Verdict::Clean)
 }

@@ -3,8 +3,9 @@ ghost use Rattle.std.specs.Prelude.{◌≡◌, true, false, ◌*◌, ◌<◌};
 ghost use Rattle.tables.specs.Limits.{barriers};
 ghost use Rattle.steps.specs.Needs.{plain_row, row_at, row_of_thread, far};
 
+use relation::at;
 use tables::Table;
-use turns::{allows, at};
+use turns::allows;
 
 // May the thread step, and with which command? Does that enter a barrier, which, with what count, and does it block?
 #[derive(Clone, Copy)]
@@ -36,8 +37,8 @@ fn row_at(commands: &[u32], c: usize) -> Row
     requires { c < far * 2 }
     ensures { result ≡ row_at commands.now c }
 {
-    let kind = at(commands, c * 3);
-    let barrier = at(commands, c * 3 + 1) as usize;
+    let kind = at(commands, c * 3, 0);
+    let barrier = at(commands, c * 3 + 1, 0) as usize;
     if kind < Table::ARRIVE {
         return plain(true, c);
     }
@@ -50,7 +51,7 @@ fn row_at(commands: &[u32], c: usize) -> Row
         enters: true,
         syncs: kind == Table::SYNC,
         barrier,
-        count: at(commands, c * 3 + 2),
+        count: at(commands, c * 3 + 2, 0),
     }
 }
 

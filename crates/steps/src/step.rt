@@ -6,8 +6,9 @@ ghost use Rattle.steps.specs.Promise.{AnswersStep};
 use crate::change::run_row;
 use crate::row::thread_row;
 use crate::state::Replay;
+use relation::at;
 use tables::first_row;
-use turns::{at, settle};
+use turns::settle;
 
 // An allowed step met a mismatch at a command, or ran a command, which has this generation.
 #[derive(Clone, Copy)]
@@ -36,19 +37,17 @@ pub(crate) fn goes_on(did: Did) -> bool
     let Did::Took(how) = did else {
         return false;
     };
-    match how {
-        How::Mismatch(_) => false,
-        How::Ran(_, _) => true,
-    }
+    matches!(how, How::Ran(_, _))
 }
 
 impl Replay {
     // Thread t steps. A step that is not allowed, or that mismatches, keeps the state it met.
+    #[tactic(auto, unfolding(tables::specs::Limits::barriers, tables::specs::Limits::most_threads))]
     pub fn step(mut self, commands: &[u32], lengths: &[u32], t: usize) -> Stepped
         ensures { AnswersStep self commands.now lengths.now t result }
     {
-        let n = at(&self.next, t);
-        let wait = at(&self.waits, t);
+        let n = at(&self.next, t, 0);
+        let wait = at(&self.waits, t, 0);
         let row = thread_row(commands, lengths, t, first_row(lengths, t), n, wait);
         let b = row.barrier;
         let barrier = self.barriers[b];

@@ -9,8 +9,9 @@ use crate::firsts::first_rows;
 use crate::row::thread_row;
 use crate::state::Replay;
 use crate::step::goes_on;
+use relation::at;
 use tables::Table;
-use turns::{Ready, at, blocked_after, blocked_set, settle};
+use turns::{Ready, blocked_after, blocked_set, settle};
 
 // Where all threads stand.
 fn all_ready(
@@ -23,16 +24,15 @@ fn all_ready(
     ensures { LookedBelow lengths.now early.now next.now result most_threads }
 {
     let mut ready = Ready::none();
-    let mut t = 0;
-    while t < Table::THREADS {
-        let n = at(next, t);
+    for t in 0..Table::THREADS {
+        let n = at(next, t, 0);
         ready = ready.look(lengths, early, t, n, firsts[t] + n as usize);
-        t += 1;
     }
     ready
 }
 
 // The commands of a list go first. The schedule stands first in the room, which it may fill, and its length is answered.
+#[tactic(auto, unfolding(tables::specs::Limits::barriers, tables::specs::Limits::most_threads))]
 pub fn write_on(
     from: Replay,
     commands: &[u32],
@@ -47,14 +47,11 @@ pub fn write_on(
     let mut state = from;
     let mut ready = all_ready(lengths, &firsts, &state.next, early);
     let mut blocked = blocked_set(lengths, &state.waits);
-    let mut steps = 0;
-    while steps < room.len() {
-        let t = ready.choose(blocked);
-        if Table::THREADS <= t {
+    for steps in 0..room.len() {
+        let Some(t) = ready.choose(blocked) else {
             return steps;
-        }
+        };
         room[steps] = t as u32;
-        steps += 1;
         let n = state.next[t];
         let wait = state.waits[t];
         let row = thread_row(commands, lengths, t, firsts[t], n, wait);
@@ -64,7 +61,7 @@ pub fn write_on(
         let did = made.did;
         let after = made.after;
         if !goes_on(did) {
-            return steps;
+            return steps + 1;
         }
         state.barriers[b] = after;
         state.next[t] = n + 1;
@@ -72,5 +69,5 @@ pub fn write_on(
         ready = ready.look(lengths, early, t, n + 1, row.command + 1);
         blocked = blocked_after(blocked, lengths, &state.waits, t, made.wait, made.frees);
     }
-    steps
+    room.len()
 }

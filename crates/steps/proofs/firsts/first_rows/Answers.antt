@@ -19,27 +19,3 @@ loop-t-preserved c = (search rules, begins_more _ c.loop-t.invariant.1 (search r
 pub returns : goal.returns
 unfolding most_threads
 returns c = begins_all _ c.loop-t.invariant.1 c.loop-t-test.false
-
-pub offset_bounds-firsts-t : goal.offset_bounds-firsts-t
-unfolding most_threads
-offset_bounds-firsts-t c = search rules
-
-pub bounds-firsts-t : goal.bounds-firsts-t
-unfolding most_threads
-bounds-firsts-t c = search rules
-
-pub at-requires : goal.at-requires
-unfolding most_threads
-at-requires c = search rules
-
-pub overflow_cast-sum : goal.overflow_cast-sum
-unfolding most_threads
-overflow_cast-sum c = search rules
-
-pub overflow_add-t : goal.overflow_add-t
-unfolding most_threads
-overflow_add-t c = search rules
-
-pub loop-t-smaller : goal.loop-t-smaller
-unfolding most_threads
-loop-t-smaller c = search rules

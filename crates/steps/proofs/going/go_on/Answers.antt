@@ -1,10 +1,12 @@
 -- `go_on` meets its contract, by whether the replay has ended. Assumes nothing.
-use mathlib.Core.Path.{◌∙◌}
-use Rattle.steps.proofs.Entries.{goes_ended, goes_open}
+use Rattle.relation.proofs.Truth.{clashing}
+use Rattle.steps.proofs.Entries.{goes_ended}
 use Rattle.steps.proofs.going.go_on.Goals as goal
+use Rattle.steps.proofs.going.go_on.Goals.{in-Clean, in_default}
 
-pub returns-then-told-ne0 : goal.returns-then-told-ne0
-returns-then-told-ne0 c = goes_ended _ _ _ _ c.told.ensures c.if-told-ne0.true
-
-pub returns : goal.returns
-returns c = c.play.ensures ∙ goes_open _ _ _ _ c.told.ensures c.if-told-ne0.false
+pub returns-then-not-matches : goal.returns-then-not-matches
+returns-then-not-matches c =
+    elim c.match-matches.branch [
+      | in-Clean w ↦ clashing w.matches-is c.if-not-matches.true
+      | in_default w ↦ goes_ended _ _ _ _ w.in_default.not-Clean
+    ]

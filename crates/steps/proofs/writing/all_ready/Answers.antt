@@ -24,35 +24,3 @@ loop-t-preserved c =
 pub returns : goal.returns
 unfolding most_threads
 returns c = looked_all _ _ c.loop-t.invariant c.loop-t-test.false
-
-pub none-ready-requires : goal.none-ready-requires
-unfolding most_threads
-none-ready-requires c = search rules
-
-pub at-n-requires : goal.at-n-requires
-unfolding most_threads
-at-n-requires c = search rules
-
-pub offset_bounds-firsts-t : goal.offset_bounds-firsts-t
-unfolding most_threads
-offset_bounds-firsts-t c = search rules
-
-pub bounds-firsts-t : goal.bounds-firsts-t
-unfolding most_threads
-bounds-firsts-t c = search rules
-
-pub overflow_cast-n : goal.overflow_cast-n
-unfolding most_threads
-overflow_cast-n c = search rules
-
-pub look-ready-requires : goal.look-ready-requires
-unfolding most_threads
-look-ready-requires c = search rules
-
-pub overflow_add-t : goal.overflow_add-t
-unfolding most_threads
-overflow_add-t c = search rules
-
-pub loop-t-smaller : goal.loop-t-smaller
-unfolding most_threads
-loop-t-smaller c = search rules

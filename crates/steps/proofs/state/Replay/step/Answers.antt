@@ -2,8 +2,7 @@
 use mathlib.Core.Path.{sym, ◌∙◌}
 use Prim.Native.Nat.{min}
 use native.Mathlib.Omega.{arith}
-use borrow.Author.Rules.{rules}
-use Rattle.tables.specs.Limits.{most_threads, barriers}
+use Rattle.tables.specs.Limits.{most_threads}
 use Rattle.tables.proofs.Rows.{first_within}
 use Rattle.steps.proofs.Stepping.{found, found_thread, found_next, answers_kept, answers_on, first_small, stored}
 use Rattle.steps.proofs.state.Replay.step.Goals as goal
@@ -59,43 +58,3 @@ returns c =
     c.at-n.ensures c.at-wait.ensures c.thread_row-row.ensures.0 c.run_row-made.ensures in
     answers_on F (sym c.goes_on.ensures ∙ c.if-not-goes_on.false)
     (stored a.self a.t _ c.run_row-made.result c.at-n.ensures c.settle.ensures)
-
-pub at-n-requires : goal.at-n-requires
-unfolding barriers
-at-n-requires c = search rules
-
-pub at-wait-requires : goal.at-wait-requires
-unfolding barriers
-at-wait-requires c = search rules
-
-pub first_row-requires : goal.first_row-requires
-unfolding barriers
-first_row-requires c = search rules
-
-pub offset_bounds-self-b : goal.offset_bounds-self-b
-unfolding barriers
-offset_bounds-self-b c = search rules
-
-pub bounds-self-b : goal.bounds-self-b
-unfolding barriers
-bounds-self-b c = search rules
-
-pub run_row-made-requires : goal.run_row-made-requires
-unfolding barriers
-run_row-made-requires c = search rules
-
-pub goes_on-requires : goal.goes_on-requires
-unfolding barriers
-goes_on-requires c = search rules
-
-pub offset_bounds-self-b-2 : goal.offset_bounds-self-b-2
-unfolding barriers
-offset_bounds-self-b-2 c = search rules
-
-pub bounds-self-b-2 : goal.bounds-self-b-2
-unfolding barriers
-bounds-self-b-2 c = search rules
-
-pub settle-requires : goal.settle-requires
-unfolding barriers
-settle-requires c = search rules
