@@ -17,16 +17,6 @@ pub returns-in-Refuse : goal.returns-in-Refuse
 returns-in-Refuse c =
     judging_refused c.loop-end.invariant (sym c.token_from.ensures ∙ c.in-Token.is) (sym c.take_token.ensures ∙ c.in-Refuse.is)
 
-pub overflow_add-sizes : goal.overflow_add-sizes
-overflow_add-sizes c =
-    let J = c.loop-end.invariant in
-    omega (arith, J.few.0, judging_further J (sym c.token_from.ensures ∙ c.in-Token.is))
-
-pub overflow_add-sizes-in-Thread : goal.overflow_add-sizes-in-Thread
-overflow_add-sizes-in-Thread c =
-    let J = c.loop-end.invariant in
-    omega (arith, J.few.1, judging_further J (sym c.token_from.ensures ∙ c.in-Token.is))
-
 pub loop-end-smaller-in-On : goal.loop-end-smaller-in-On
 loop-end-smaller-in-On c =
     omega (arith, judging_further c.loop-end.invariant (sym c.token_from.ensures ∙ c.in-Token.is))
