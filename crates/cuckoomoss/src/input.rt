@@ -2,7 +2,7 @@
 ghost use Rattle.cuckoomoss.specs.Needs.{CameWithin};
 
 use notation::Text;
-use std::io::{Error, ErrorKind, Read, Stdin};
+use std::io::{self, Error, ErrorKind, Read, Stdin};
 
 #[derive(Clone, Copy)]
 pub(crate) struct Input;
@@ -12,44 +12,30 @@ impl Input {
     pub(crate) const BYTES: usize = Text::BYTES + 1;
 }
 
-// How many bytes came; or a read failed, and the error says why.
-#[derive(Clone, Copy)]
-pub(crate) enum Came {
-    Bytes(usize),
-    Failed(Error),
-}
-
 // One read: no byte comes at the end of the input. A read that a signal interrupted is tried again, up to a number of times that no run uses up.
-fn read_once(from: &mut Stdin, room: &mut [u8]) -> Came
+fn read_once(from: &mut Stdin, room: &mut [u8]) -> io::Result<usize>
     ensures { CameWithin result room.new }
 {
     for _ in 0..u64::MAX {
         match from.read(room) {
-            Ok(n) => return Came::Bytes(n),
-            Err(error) => {
-                if error.kind() != ErrorKind::Interrupted {
-                    return Came::Failed(error);
-                }
-            }
+            Err(error) if error.kind() == ErrorKind::Interrupted => {}
+            came => return came,
         }
     }
-    Came::Failed(Error::from(ErrorKind::Interrupted))
+    Err(Error::from(ErrorKind::Interrupted))
 }
 
 // Reads until the room is full, the input ends or a read fails.
-pub(crate) fn fill(from: &mut Stdin, room: &mut [u8]) -> Came
+pub(crate) fn fill(from: &mut Stdin, room: &mut [u8]) -> io::Result<usize>
     ensures { CameWithin result room.new }
 {
     let mut done = 0;
     while done < room.len() {
-        let came = read_once(from, &mut room[done..]);
-        let Came::Bytes(n) = came else {
-            return came;
-        };
+        let n = read_once(from, &mut room[done..])?;
         if n == 0 {
             break;
         }
         done += n;
     }
-    Came::Bytes(done)
+    Ok(done)
 }

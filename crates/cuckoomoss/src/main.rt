@@ -2,11 +2,12 @@
 // never taken for an end.
 #![tactic(auto)]
 
-ghost use Rattle.cuckoomoss.specs.Printed.{AnswersBeforeZero, HoldsReport, HoldsExhibits};
+ghost use Rattle.std.specs.Prelude.{◌≡◌};
+ghost use Rattle.cuckoomoss.specs.Printed.{IsPrefixLen, AnswersBeforeZero, HoldsReport, HoldsExhibits};
 
 use asked::{Wanted, asked};
 use desk::Report;
-use input::{Came, Input, fill};
+use input::{Input, fill};
 
 mod asked; // what the arguments ask for
 mod input; // a text from standard input
@@ -15,82 +16,57 @@ mod input; // a text from standard input
 fn before_zero(room: &[u8]) -> usize
     ensures { AnswersBeforeZero room.now result }
 {
-    let mut i = 0;
-    while i < room.len() {
-        if room[i] == 0 {
-            break;
+    for (i, byte) in room.iter().enumerate() {
+        if *byte == 0 {
+            return i;
         }
-        i += 1;
     }
-    i
+    room.len()
 }
 
-// The report of a text: the first `length` of these bytes.
+// What is printed of a text: the first `len` of these bytes.
 #[derive(Clone, Copy)]
-struct Output {
-    bytes: [u8; Report::BYTES],
-    length: usize,
+struct Output<const N: usize> {
+    bytes: [u8; N],
+    len: usize,
+    ghost fits: { IsPrefixLen len bytes },
 }
 
 // Reviews a text into a room of zeros, of the size that the text review asks for.
-fn report_of(text: &[u8]) -> Output
-    ensures { HoldsReport text.now result.bytes result.length }
+fn report_of(text: &[u8]) -> Output<{ Report::BYTES }>
+    ensures { HoldsReport text.now result.bytes result.len }
 {
     let mut bytes = [0u8; Report::BYTES];
     desk::review_text(text, &mut bytes);
-    let length = before_zero(&bytes);
-    Output { bytes, length }
+    let len = before_zero(&bytes);
+    Output { bytes, len }
 }
 
 // The same with evidence.
-#[derive(Clone, Copy)]
-struct LongOutput {
-    bytes: [u8; Report::EVIDENCE_BYTES],
-    length: usize,
-}
-
-fn evidence_of(text: &[u8]) -> LongOutput
-    ensures { HoldsExhibits text.now result.bytes result.length }
+fn evidence_of(text: &[u8]) -> Output<{ Report::EVIDENCE_BYTES }>
+    ensures { HoldsExhibits text.now result.bytes result.len }
 {
     let mut bytes = [0u8; Report::EVIDENCE_BYTES];
     desk::review_text_evidence(text, &mut bytes);
-    let length = before_zero(&bytes);
-    LongOutput { bytes, length }
+    let len = before_zero(&bytes);
+    Output { bytes, len }
 }
 
 // That these bytes come out, once, no contract can say: the tests compare them.
-fn put_out(rt: &(impl Print + Eprint), bytes: &[u8]) {
-    if let Err(error) = rt.write_all(bytes) {
+fn put_out<const N: usize>(rt: &(impl Print + Eprint), output: Output<N>) {
+    if let Err(error) = rt.write_all(&output.bytes[..output.len]) {
         let _ = eprintln!(rt; "writing the report: {error}");
     }
 }
 
-fn print_review(rt: &(impl Print + Eprint), text: &[u8]) {
-    let report = report_of(text);
-    let bytes = report.bytes;
-    put_out(rt, &bytes[..report.length]);
-}
-
-fn print_evidence(rt: &(impl Print + Eprint), text: &[u8]) {
-    let report = evidence_of(text);
-    let bytes = report.bytes;
-    put_out(rt, &bytes[..report.length]);
-}
-
-fn print(rt: &(impl Print + Eprint), text: &[u8], evidence: bool) {
-    if evidence {
-        print_evidence(rt, text);
-    } else {
-        print_review(rt, text);
-    }
-}
-
-// Reads the text, reviews it and prints. An error is told in a line, and the status is 0 whatever happens.
-fn answer(rt: &HostRuntime, evidence: bool) {
+// Reads the text, and has it reviewed and printed. An error is told in a line, and the status is 0 whatever happens.
+fn answer<F: Fn(&[u8])>(rt: &HostRuntime, print: F)
+    requires { F.IsAlwaysCallable print }
+{
     let mut text = [0u8; Input::BYTES];
     match fill(&mut rt.stdin(), &mut text) {
-        Came::Bytes(n) => print(rt, &text[..n], evidence),
-        Came::Failed(error) => {
+        Ok(n) => print(&text[..n]),
+        Err(error) => {
             let _ = eprintln!(rt; "reading the text: {error}");
         }
     }
@@ -98,8 +74,8 @@ fn answer(rt: &HostRuntime, evidence: bool) {
 
 fn main(rt: HostRuntime) {
     match asked(&rt) {
-        Wanted::Report => answer(&rt, false),
-        Wanted::Evidence => answer(&rt, true),
+        Wanted::Report => answer(&rt, |text| put_out(&rt, report_of(text))),
+        Wanted::Evidence => answer(&rt, |text| put_out(&rt, evidence_of(text))),
         Wanted::Other => {
             let _ = eprintln!(rt; "usage: cuckoomoss [--evidence]");
         }

@@ -1,4 +1,4 @@
--- The token that bytes begin with, test by test: the laws behind `word`, `mark`, `first_token` and `token_at`. Assumes nothing.
+-- The token that bytes begin with, test by test: the laws behind `first_token` and `token_at`, and a property of each. Assumes nothing.
 use mathlib.Core.Path.{◌≡◌, refl, ap, sym, ◌∙◌}
 use mathlib.Core.Bool.{Bool, true, false, cond, ◌&&◌, and-false, true≢false}
 use mathlib.Core.List.{List, [], ◌∷◌}
@@ -24,13 +24,6 @@ use Rattle.grammar.specs.declared.tokens.Piece.{Piece}
 use Rattle.grammar.specs.declared.tokens.Met.TheVariants as M
 use Rattle.grammar.specs.Spelling.{read_word, write_word, arrive_word, sync_word, return_word}
 use Rattle.grammar.specs.Tokens.{word_of, numeral, number_of, sized, mark_of, piece_of, size_of, token_at}
-
--- with the answers of its tests
-pub word_is : (w : List ℕ) (a b c d e : Bool)
-    → same_bytes w read_word ≡ a → same_bytes w write_word ≡ b → same_bytes w arrive_word ≡ c → same_bytes w sync_word ≡ d → same_bytes w return_word ≡ e
-    → cond a (Access read) (cond b (Access write) (cond c (Signal arrive) (cond d (Signal sync) (cond e Return Misfit)))) ≡ word_of w
-unfolding word_of
-word_is w a b c d e p q r s t = rw (p, q, r, s, t)
 
 module _ (s : List ℕ) where
   -- k is the class of the first byte

@@ -36,6 +36,7 @@ pub enum Met {
     Token(Token, usize, usize),
 }
 
+#[tactic(auto, unfolding(crate::specs::Tokens::word_of))]
 fn word(bytes: &[u8]) -> Token
     ensures { result ≡ word_of bytes.now }
 {

@@ -9,7 +9,7 @@ use Prim.Native.Nat.{ℕ, suc, ◌+◌, ◌*◌, ◌≤◌, ◌<◌}
 use native.Mathlib.Numerals.{add-one}
 use native.Mathlib.Omega.{arith}
 use lib.ListN.{length, set}
-use Rattle.tables.specs.Limits.{most_rows, most_threads}
+use Rattle.tables.specs.Limits.{most_rows}
 use Rattle.spelling.specs.Machine.{Outcome, Row, outcome, found_after, flat}
 use Rattle.tables.specs.Over.{over}
 use Rattle.tables.proofs.Over.{Filling, filling_none, filling_left, filling_count, filling_room, filling_long, filling_done, filling_more, filling_three}
@@ -110,7 +110,7 @@ pub record Writing (text was was' now now' : List ℕ) (at : ℕ) (s : State) (i
   pub inside : at ≤ length text
   pub rows : Filling (row_numbers text) (flat (found_from text at s n).rows) was now i
   pub lens : Filling (thread_lengths text) (found_from text at s n).lengths was' now' j
-  pub few : (n * 3 ≤ i) × (length (row_numbers text) ≤ most_rows * 3) × (length (thread_lengths text) ≤ most_threads)
+  pub few : (n * 3 ≤ i) × (length (row_numbers text) ≤ most_rows * 3)
 
 pub flat_long : (rs : List Row) → length (flat rs) ≡ length rs * 3
 unfolding flat
@@ -123,7 +123,7 @@ writing_start {text} R =
       inside = omega arith;
       rows = filling_none _ _ R.rows;
       lens = filling_none _ _ R.lens;
-      few = (omega arith, omega (arith, R.few_rows, flat_long (read_of text).rows), R.few_threads);
+      few = (omega arith, omega (arith, R.few_rows, flat_long (read_of text).rows));
     }
 
 module _ {text was was' now now' : List ℕ} {at : ℕ} {s : State} {i j n : ℕ} (W : Writing text was was' now now' at s i j n) where
@@ -165,11 +165,11 @@ module _ {text was was' now now' : List ℕ} {at : ℕ} {s : State} {i j n : ℕ
       unfolding flat
       row_left = filling_left _ (ap (λ (o : Outcome). flat o.rows) (goes_to (Do.Row k a c) q)) W.rows
 
-      -- the row has its room, and no count overflows
-      pub writing_room : (i + 3 ≤ length now) × (i + 3 ≤ most_rows * 3) × (n + 1 ≤ most_rows)
+      -- the row has its room, and the thread's count does not overflow
+      pub writing_room : (i + 3 ≤ length now) × (n + 1 ≤ most_rows)
       writing_room =
           let f : i + 3 ≤ length (row_numbers text) = omega (arith, filling_count row_left) in
-          (omega (arith, filling_room row_left, filling_long row_left), omega (arith, f, W.few.1), omega (arith, f, W.few.0, W.few.1))
+          (omega (arith, filling_room row_left, filling_long row_left), omega (arith, f, W.few.0, W.few.1))
 
       pub writing_row : Writing text was was' (set (set (set now i k) (i + 1) a) (i + 2) c) now' nxt Close (i + 3) j (n + 1)
       writing_row =
@@ -178,17 +178,17 @@ module _ {text was was' now now' : List ℕ} {at : ℕ} {s : State} {i j n : ℕ
             inside = writing_further.1;
             rows = filling_three k a c row_left;
             lens = filling_left _ (ap (λ (o : Outcome). o.lengths) (goes_to (Do.Row k a c) q)) W.lens;
-            few = (omega (arith, W.few.0), W.few.1, W.few.2);
+            few = (omega (arith, W.few.0), W.few.1);
           })
 
     module _ (q : token_moves s tok ≡ Do.Thread) where
       thread_left : Filling (thread_lengths text) (n ∷ (found_from text nxt Parting 0).lengths) was' now' j
       thread_left = filling_left _ (ap (λ (o : Outcome). o.lengths) (goes_to Do.Thread q)) W.lens
 
-      pub writing_place : (j < length now') × (j < most_threads)
+      pub writing_place : j < length now'
       writing_place =
           let f : j + 1 ≤ length (thread_lengths text) = omega (arith, filling_count thread_left) in
-          (omega (arith, filling_room thread_left, filling_long thread_left), omega (arith, f, W.few.2))
+          omega (arith, filling_room thread_left, filling_long thread_left)
 
       pub writing_thread : Writing text was was' now (set now' j n) nxt Parting i (j + 1) 0
       writing_thread =
@@ -196,5 +196,5 @@ module _ {text was was' now now' : List ℕ} {at : ℕ} {s : State} {i j n : ℕ
             inside = writing_further.1;
             rows = filling_left _ (ap (λ (o : Outcome). flat o.rows) (goes_to Do.Thread q)) W.rows;
             lens = filling_more n thread_left;
-            few = (omega arith, W.few.1, W.few.2);
+            few = (omega arith, W.few.1);
           }

@@ -268,7 +268,6 @@ judged_rooms text commands lengths s e q =
     let n = judged_many text s e in
     record {
       few_rows = omega (arith, f.0, n.0);
-      few_threads = omega (arith, f.1, n.1);
       rows = omega (arith, f.2, n.0, flat_long (read_of text).rows);
       lens = omega (arith, f.3, n.1);
     }

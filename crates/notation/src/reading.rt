@@ -42,6 +42,7 @@ pub fn told(reading: Reading) -> Told
 }
 
 // Are m commands or t threads more than a table has, or than rooms of these sizes hold?
+#[tactic(auto, unfolding(crate::specs::Reading::is_too_many, tables::specs::Limits::most_rows, tables::specs::Limits::most_threads))]
 fn too_many(m: usize, t: usize, room: usize, places: usize) -> bool
     ensures { result ≡ is_too_many m t room places }
 {

@@ -58,7 +58,7 @@ fn put_row(commands: &mut [u32], at: usize, kind: u32, name: u32, count: u32)
     commands[at..at + 3].copy_from_slice(&[kind, name, count]);
 }
 
-// The pass that writes the tables of a text that was judged, into rooms that hold them.
+// The pass that writes the tables of a text that was judged, into rooms that hold them. The loop goes over tokens, of which several make a row, so it counts where rows go.
 pub(crate) fn write(text: &[u8], commands: &mut [u32], lengths: &mut [u32])
     requires { Rooms text.now commands.old lengths.old }
     ensures { (commands.new ≡ over (row_numbers text.now) commands.old)

@@ -11,16 +11,16 @@ use Rattle.cuckoomoss.proofs.before_zero.Goals as goal
 pub loop-i-preserved : goal.loop-i-preserved
 loop-i-preserved c =
     let l = c.loop-i in
-    (omega (arith, c.loop-i-test.true), omega (arith, l.invariant.1, run_on nonzero c.args.room.now l.i c.loop-i-test.true (ap not (ne_eqb _ _ c.if-room-i-eq0.false))))
+    omega (arith, l.invariant, run_on nonzero c.args.room.now l.i c.loop-i-test.true (ap not (ne_eqb _ _ c.if-byte-eq0.false)))
 
-pub returns-after-loop-i : goal.returns-after-loop-i
-returns-after-loop-i c =
+pub returns : goal.returns
+returns c =
     let l = c.loop-i in
-    (omega (arith, l.invariant.1, run_out nonzero c.args.room.now l.i c.loop-i-test.false), (l.invariant.0, sym (length-take-le _ _ l.invariant.0)))
+    (omega (arith, l.invariant, l.auto.i-end, run_out nonzero c.args.room.now l.i c.loop-i-test.false), (omega arith, sym (length-take-le _ _ (omega arith))))
 
-pub returns-then-room-i-eq0 : goal.returns-then-room-i-eq0
-returns-then-room-i-eq0 c =
+pub returns-then-byte-eq0 : goal.returns-then-byte-eq0
+returns-then-byte-eq0 c =
     let l = c.loop-i in (
-      omega (arith, l.invariant.1, run_off nonzero c.args.room.now l.i c.loop-i-test.true (ap not (eq-eqb _ _ c.if-room-i-eq0.true))),
-      (l.invariant.0, sym (length-take-le _ _ l.invariant.0)),
+      omega (arith, l.invariant, run_off nonzero c.args.room.now l.i c.loop-i-test.true (ap not (eq-eqb _ _ c.if-byte-eq0.true))),
+      (omega (arith, c.loop-i-test.true), sym (length-take-le _ _ (omega (arith, c.loop-i-test.true)))),
     )

@@ -5,4 +5,4 @@ use Rattle.cuckoomoss.proofs.evidence_of.Goals as goal
 
 pub returns : goal.returns
 unfolding least_evidence
-returns c = exhibits_held c.review_text_evidence.ensures c.before_zero-length.ensures
+returns c = exhibits_held c.review_text_evidence.ensures c.before_zero-len.ensures

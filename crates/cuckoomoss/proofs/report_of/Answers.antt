@@ -5,4 +5,4 @@ use Rattle.cuckoomoss.proofs.report_of.Goals as goal
 
 pub returns : goal.returns
 unfolding least_room
-returns c = report_held c.review_text.ensures c.before_zero-length.ensures
+returns c = report_held c.review_text.ensures c.before_zero-len.ensures

@@ -31,17 +31,17 @@ unfolding most_bytes
 returns-then-too_many c =
     let e : c.scan.result ≡ Ok c.in_ok-sizes.sizes = search rules in
     promised _ _ _ _ _ _
-    (reading_over _ _ _ (omega (arith, c.if-text-gt-BYTES.false)) _ (sym c.scan.ensures ∙ e) (sym c.too_many.ensures ∙ c.if-too_many.true)) refl refl
+    (reading_over _ _ _ (omega (arith, c.if-text-gt-BYTES.false)) _ (sym c.scan.ensures ∙ e) (sym c.if-too_many.ensures)) refl refl
 
 pub write-requires : goal.write-requires
 write-requires c =
     let e : c.scan.result ≡ Ok c.in_ok-sizes.sizes = search rules in
-    judged_rooms _ _ _ _ (sym c.scan.ensures ∙ e) (sym c.too_many.ensures ∙ c.if-too_many.false)
+    judged_rooms _ _ _ _ (sym c.scan.ensures ∙ e) (sym c.if-too_many.ensures)
 
 pub returns : goal.returns
 unfolding most_bytes
 returns c =
     let e : c.scan.result ≡ Ok c.in_ok-sizes.sizes = search rules in
     promised _ _ _ _ _ _
-    (reading_accepted _ _ _ (omega (arith, c.if-text-gt-BYTES.false)) _ (sym c.scan.ensures ∙ e) (sym c.too_many.ensures ∙ c.if-too_many.false))
+    (reading_accepted _ _ _ (omega (arith, c.if-text-gt-BYTES.false)) _ (sym c.scan.ensures ∙ e) (sym c.if-too_many.ensures))
     c.write.ensures.0 c.write.ensures.1
