@@ -3,19 +3,19 @@ use mathlib.Core.Path.{◌≡◌, refl, sym, ap, ◌∙◌, subst}
 use mathlib.Core.Bool.{Bool, true, false, cond, true≢false}
 use mathlib.Core.Logic.{◌≢◌, by_cases}
 use mathlib.Core.List.{List, []}
-use Prim.Native.Nat.{ℕ, ◌*◌, ◌≤◌}
+use Prim.Native.Nat.{ℕ, ◌≤◌}
 use native.Mathlib.Omega.{arith}
 use native.Mathlib.Decide.{ℕ_discrete}
 use lib.ListN.{length, take, drop, replicate, length-append, length-replicate}
 use lib.Seq.{take_at}
-use Rattle.tables.specs.Limits.{most_rows, most_threads}
+use Rattle.tables.specs.Limits.{most_rows}
 use Rattle.tables.specs.Rows.{rows}
 use Rattle.rules.specs.Rules.{checked}
 use Rattle.verdicts.specs.Verdicts.{numbered}
 use Rattle.verdicts.specs.Numbers.{has_pairs, fills}
 use Rattle.verdicts.proofs.Numbers.{few_refusal, refusal_unfilled, pairs_fill}
 use Rattle.rules.proofs.Rules.{passes_zero, checked_small}
-use Rattle.relation.specs.Table.{width, words}
+use Rattle.relation.specs.Table.{words}
 use Rattle.relation.proofs.Truth.{clashing}
 use Rattle.replay.specs.declared.writer.Written.{Written}
 use Rattle.replay.specs.Doors.{WritesSchedule}
@@ -37,22 +37,10 @@ use Rattle.review.proofs.Rooms.{put}
 use Rattle.review.proofs.Telling.{verdict_is, sheet_is, empty_is}
 use Rattle.steps.proofs.Filled.{filled_room}
 
--- rooms of zeros are full ones
-pub full_numbers : length {A = ℕ} (replicate 1536 0) ≡ most_rows * 3
-unfolding most_rows
-full_numbers = length-replicate {A = ℕ} 1536 0
-
-pub full_threads : length {A = ℕ} (replicate 64 0) ≡ most_threads
-unfolding most_threads
-full_threads = length-replicate {A = ℕ} 64 0
-
+-- a room of zeros is a full one
 pub full_rows : length {A = ℕ} (replicate 512 0) ≡ most_rows
 unfolding most_rows
 full_rows = length-replicate {A = ℕ} 512 0
-
-pub full_words : length {A = ℕ} (replicate 8192 0) ≡ words most_rows
-unfolding most_rows width
-full_words = length-replicate {A = ℕ} 8192 0
 
 -- a full room is not refused
 roomy : (commands lengths : List ℕ) (room : ℕ) → (checked commands lengths).number ≡ 0 → most_rows ≤ room → (unwritten commands lengths room).number ≡ 0

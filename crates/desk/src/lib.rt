@@ -1,10 +1,12 @@
 // The text review: a text in, a report out, and the evidence for it. desk_c has both doors as C calls them.
 #![tactic(auto)]
 
+ghost use Rattle.std.specs.Prelude.{◌≤◌};
 ghost use Rattle.desk.specs.Promise.{TextReviewed};
 ghost use Rattle.desk.specs.Evidence.{TextEvidenced};
+ghost use Rattle.desk.specs.Needs.{Concludes};
 
-use crate::conclusion::{Full, conclude};
+use crate::conclusion::{Concluded, Full, conclude};
 use exhibits::put_exhibits;
 use printing::Printer;
 use report::print;
@@ -23,6 +25,44 @@ impl Report {
     pub const EVIDENCE_BYTES: usize = 192 + 32 * 1600;
 }
 
+// The rooms of a review, all of them full ones.
+#[derive(Drop)]
+struct Rooms {
+    commands: [u32; Full::NUMBERS],
+    lengths: [u32; Table::THREADS],
+    relation: [u32; Full::WORDS],
+    generations: [u32; Table::ROWS],
+}
+
+impl Rooms {
+    // Inlined, or the rooms would be copied.
+    #[inline(always)]
+    fn full() -> Self {
+        Rooms {
+            commands: [0; Full::NUMBERS],
+            lengths: [0; Table::THREADS],
+            relation: [0; Full::WORDS],
+            generations: [0; Table::ROWS],
+        }
+    }
+
+    // A text read into tables, and these judged; or what the reading refused. Inlined, or the stack would be more than include/desk.h says.
+    #[inline(always)]
+    fn conclude(&mut self, text: &[u8]) -> Concluded
+        ensures concludes { Concludes text.now self.old.relation self.old.generations
+            result self.new.commands self.new.lengths self.new.relation self.new.generations }
+        ensures fits { (result.numbers ≤ Full.NUMBERS) × (result.threads ≤ Table.THREADS) }
+    {
+        conclude(
+            text,
+            &mut self.commands,
+            &mut self.lengths,
+            &mut self.relation,
+            &mut self.generations,
+        )
+    }
+}
+
 // Reads a text, writes a schedule, judges it and prints. Its own rooms are full ones on the stack.
 pub fn review_text(text: &[u8], report: &mut [u8]) -> u32
     ensures { TextReviewed text.now report.old report.new result }
@@ -30,18 +70,8 @@ pub fn review_text(text: &[u8], report: &mut [u8]) -> u32
     if report.len() < Report::BYTES {
         return 14;
     }
-    let mut commands = [0u32; Full::NUMBERS];
-    let mut lengths = [0u32; Table::THREADS];
-    let mut relation = [0u32; Full::WORDS];
-    let mut generations = [0u32; Table::ROWS];
-    let concluded = conclude(
-        text,
-        &mut commands,
-        &mut lengths,
-        &mut relation,
-        &mut generations,
-    );
-    let conclusion = concluded.conclusion;
+    let mut rooms = Rooms::full();
+    let conclusion = rooms.conclude(text).conclusion;
     let mut out = Printer {
         room: report,
         at: 0,
@@ -57,18 +87,12 @@ pub fn review_text_evidence(text: &[u8], report: &mut [u8]) -> u32
     if report.len() < Report::EVIDENCE_BYTES {
         return 14;
     }
-    let mut commands = [0u32; Full::NUMBERS];
-    let mut lengths = [0u32; Table::THREADS];
-    let mut relation = [0u32; Full::WORDS];
-    let mut generations = [0u32; Table::ROWS];
-    let concluded = conclude(
-        text,
-        &mut commands,
-        &mut lengths,
-        &mut relation,
-        &mut generations,
-    );
-    let conclusion = concluded.conclusion;
+    let mut rooms = Rooms::full();
+    let Concluded {
+        conclusion,
+        numbers,
+        threads,
+    } = rooms.conclude(text);
     let mut out = Printer {
         room: report,
         at: 0,
@@ -77,11 +101,11 @@ pub fn review_text_evidence(text: &[u8], report: &mut [u8]) -> u32
     put_exhibits(
         &mut out,
         Tables {
-            commands: &commands[..concluded.numbers],
-            lengths: &lengths[..concluded.threads],
+            commands: &rooms.commands[..numbers],
+            lengths: &rooms.lengths[..threads],
         },
-        &generations,
-        &relation,
+        &rooms.generations,
+        &rooms.relation,
         conclusion.told.number,
         conclusion.sheet,
     );

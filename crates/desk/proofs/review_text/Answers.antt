@@ -3,7 +3,6 @@ use mathlib.Core.Path.{refl}
 use native.Mathlib.Omega.{arith}
 use borrow.Author.Rules.{rules}
 use Rattle.desk.specs.Promise.{least_room}
-use Rattle.desk.proofs.Tabled.{full_numbers, full_threads, full_rows, full_words}
 use Rattle.desk.proofs.Reports.{refused_room, reviewed_text}
 use Rattle.desk.proofs.review_text.Goals as goal
 
@@ -11,9 +10,6 @@ pub returns-then-report-lt-BYTES : goal.returns-then-report-lt-BYTES
 unfolding least_room
 returns-then-report-lt-BYTES c = refused_room _ (omega (arith, c.if-report-lt-BYTES.true))
 
-pub conclude-concluded-requires : goal.conclude-concluded-requires
-conclude-concluded-requires c = (record { numbers = full_numbers; threads = full_threads }, record { wide = full_words; high = full_rows })
-
 pub returns : goal.returns
 unfolding least_room
-returns c = reviewed_text _ (omega (arith, c.if-report-lt-BYTES.false)) c.conclude-concluded.ensures.concludes refl c.print.ensures (search rules)
+returns c = reviewed_text _ (omega (arith, c.if-report-lt-BYTES.false)) c.conclude.ensures.concludes.concludes refl c.print.ensures (search rules)
