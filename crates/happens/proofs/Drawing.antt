@@ -11,6 +11,7 @@ use lib.Dec.{ltb}
 use lib.ListN.{length, get_or, set, take, length-set}
 use lib.Seq.{get_or-set_same, get_or-set_other, get_or-take, length-take-le}
 use borrow.Author.Tests.{not-true, ltb-true, lt-ltb}
+use Rattle.std.specs.Prelude.{Some, None}
 use Rattle.tables.specs.Rows.{rows, is_first}
 use Rattle.tables.specs.Heads.{own_head, Headed}
 use Rattle.tables.proofs.Filling.{first_by_head}
@@ -26,8 +27,8 @@ use Rattle.rooms.specs.Rooms.{number_at}
 use Rattle.sweeps.specs.Pairs.{pair_count, PairBetween, PairIn}
 use Rattle.happens.specs.HappensBefore.{Reached}
 use Rattle.happens.specs.Needs.{does_meet_row, leader, Seated}
-use Rattle.happens.specs.Needs.{follows, Draws, next, to, from, DrawsBelow, Adds, OnePair}
-use Rattle.happens.proofs.Leading.{Meeting, meets_parts, parts_meet, meets_itself, meets_on, meets_beside, sync_led, same_leader}
+use Rattle.happens.specs.Needs.{follows, Led, to, from, Draws, led, next, DrawsBelow, Adds, OnePair}
+use Rattle.happens.proofs.Leading.{Meeting, meets_parts, parts_meet, meets_itself, meets_beside, sync_led, same_leader, leader_met}
 
 -- ---- pairs are added
 
@@ -56,11 +57,7 @@ adds_map {D = D} l f g A =
       only = λ i k x. ⊎_elim inl (λ (d : D i k). inr (f i k d)) (A.only i k x);
     }
 
--- the test found no pair
-pub adds_not : {a : List ℕ} {n i k : ℕ} {found : Bool} → found ≡ false → Adds 1 (OnePair found i k) a a n n
-adds_not f = adds_map (omega arith) (λ i k d. absurd d) (λ i k P. clashing P.found f) (adds_none {D = λ i k. ⊥} (λ i k d. d))
-
--- it found one, which is stored after the others
+-- one is stored after the others
 module _ (a : List ℕ) (n i k : ℕ) (room : n * 2 + 2 ≤ length a) where
   abbrev half : List ℕ
   half = set a (n * 2) i
@@ -77,8 +74,8 @@ module _ (a : List ℕ) (n i k : ℕ) (room : n * 2 + 2 ≤ length a) where
   stored_to : get_or stored (n * 2 + 1) 0 ≡ k
   stored_to = get_or-set_same half (n * 2 + 1) k 0 (rw (length-set a (n * 2) i) (omega arith))
 
-  pub adds_one : {found : Bool} → found ≡ true → Adds 1 (OnePair found i k) a stored n (n + 1)
-  adds_one t =
+  pub adds_one : Adds 1 (OnePair i k) a stored n (n + 1)
+  adds_one =
       record {
         len = length-set half (n * 2 + 1) k ∙ length-set a (n * 2) i;
         few = omega arith;
@@ -95,7 +92,6 @@ module _ (a : List ℕ) (n i k : ℕ) (room : n * 2 + 2 ≤ length a) where
             by_cases (ℕ_discrete P.at n)
             (λ (e : P.at ≡ n).
             inr (record {
-              found = t;
               from = sym P.from ∙ ap (λ (p : ℕ). get_or stored (p * 2) 0) e ∙ stored_from;
               to = sym P.to ∙ ap (λ (p : ℕ). get_or stored (p * 2 + 1) 0) e ∙ stored_to;
             }))
@@ -115,21 +111,57 @@ pub follows_low : (heads : List ℕ) (m c : ℕ) → follows heads m c ≡ true 
 follows_low heads m c e = ltb-true (c + 1) m (both _ _ e).0
 
 module _ (commands generations heads leaders : List ℕ) where
-  abbrev lead : ℕ → ℕ
-  lead = leader commands generations leaders
+  -- no leader
+  pub led_none : (c : ℕ) → leader commands generations leaders c ≡ None → {a : List ℕ} {n : ℕ} → Adds 2 (Led commands generations leaders c) a a n n
+  led_none c e = adds_map (omega arith) (λ i k d. absurd d) back (adds_none {D = λ i k. ⊥} (λ i k d. d))
+    where
+      back : (i k : ℕ) → Led commands generations leaders c i k → ⊥
+      back i k (to q) = cc
+      back i k (from q g) = cc
 
-  abbrev Three : ℕ → ℕ → ℕ → ℕ → Type 0
-  Three c l i k = (OnePair (does_meet_row commands generations l c) l c i k ⊎ OnePair (does_meet_row commands generations c l) c l i k) ⊎ OnePair (follows heads (rows commands) c) c (c + 1) i k
+  -- one that does not meet c
+  pub led_one : (c x : ℕ) → leader commands generations leaders c ≡ Some x → does_meet_row commands generations x c ≡ false → {a b : List ℕ} {n r : ℕ}
+      → Adds 1 (OnePair c x) a b n r → Adds 2 (Led commands generations leaders c) a b n r
+  led_one c x e f A = adds_map (omega arith) (λ i k P. rw (P.from, P.to) (to e)) back A
+    where
+      back : (i k : ℕ) → Led commands generations leaders c i k → OnePair c x i k
+      back i k (to {l} q) = record { from = refl; to = cc }
+      back i k (from {l} q g) = let h : l ≡ x = cc in clashing (rw h at g) f
 
-  pub three_draws : (c l : ℕ) → l ≡ lead c → (i k : ℕ) → Three c l i k → Draws commands generations heads leaders c i k
-  three_draws c l e i k (inl (inl P)) = rw (P.from, P.to, e) (from (rw e at P.found))
-  three_draws c l e i k (inl (inr P)) = rw (P.from, P.to, e) (to (rw e at P.found))
-  three_draws c l e i k (inr P) = rw (P.from, P.to) (next P.found)
+  -- one that does
+  pub led_both : (c x : ℕ) → leader commands generations leaders c ≡ Some x → does_meet_row commands generations x c ≡ true → {a b : List ℕ} {n r : ℕ}
+      → Adds 2 (λ i k. OnePair x c i k ⊎ OnePair c x i k) a b n r → Adds 2 (Led commands generations leaders c) a b n r
+  led_both c x e t A = adds_map (omega arith) on back A
+    where
+      on : (i k : ℕ) → OnePair x c i k ⊎ OnePair c x i k → Led commands generations leaders c i k
+      on i k (inl P) = rw (P.from, P.to) (from e t)
+      on i k (inr P) = rw (P.from, P.to) (to e)
 
-  pub draws_three : (c l : ℕ) → l ≡ lead c → (i k : ℕ) → Draws commands generations heads leaders c i k → Three c l i k
-  draws_three c l e i k (next f) = inr (record { found = f; from = refl; to = refl })
-  draws_three c l e i k (to f) = inl (inr (record { found = rw e f; from = refl; to = sym e }))
-  draws_three c l e i k (from f) = inl (inl (record { found = rw e f; from = sym e; to = refl }))
+      back : (i k : ℕ) → Led commands generations leaders c i k → OnePair x c i k ⊎ OnePair c x i k
+      back i k (to {l} q) = inr (record { from = refl; to = cc })
+      back i k (from {l} q g) = inl (record { from = cc; to = refl })
+
+  -- c is the last of its thread
+  pub draws_last : (c : ℕ) → follows heads (rows commands) c ≡ false → {a b : List ℕ} {n r : ℕ} → Adds 2 (Led commands generations leaders c) a b n r
+      → Adds 3 (Draws commands generations heads leaders c) a b n r
+  draws_last c f A = adds_map (omega arith) (λ i k d. led d) back A
+    where
+      back : (i k : ℕ) → Draws commands generations heads leaders c i k → Led commands generations leaders c i k
+      back i k (led d) = d
+      back i k (next g) = clashing g f
+
+  -- the next command follows
+  pub draws_next : (c : ℕ) → follows heads (rows commands) c ≡ true → {a b : List ℕ} {n r : ℕ}
+      → Adds 3 (λ i k. Led commands generations leaders c i k ⊎ OnePair c (c + 1) i k) a b n r → Adds 3 (Draws commands generations heads leaders c) a b n r
+  draws_next c t A = adds_map (omega arith) on back A
+    where
+      on : (i k : ℕ) → Led commands generations leaders c i k ⊎ OnePair c (c + 1) i k → Draws commands generations heads leaders c i k
+      on i k (inl d) = led d
+      on i k (inr P) = rw (P.from, P.to) (next t)
+
+      back : (i k : ℕ) → Draws commands generations heads leaders c i k → Led commands generations leaders c i k ⊎ OnePair c (c + 1) i k
+      back i k (led d) = inl d
+      back i k (next g) = inr (record { from = refl; to = refl })
 
   pub below_more : (c i k : ℕ) → DrawsBelow commands generations heads leaders c i k ⊎ Draws commands generations heads leaders c i k
       → DrawsBelow commands generations heads leaders (c + 1) i k
@@ -166,8 +198,8 @@ module _ (commands lengths generations heads leaders : List ℕ) (H : Headed len
   one_edge c i k (next f) =
       let l = follows_low heads m c f in
       along l (add-one c) (sym (begins (c + 1) l) ∙ not-true _ (both (ltb (c + 1) m) _ f).1)
-  one_edge c i k (to f) = meets_edge _ _ f
-  one_edge c i k (from f) = meets_edge _ _ f
+  one_edge c i k (led (to e)) = meets_edge _ _ (leader_met commands generations leaders c e)
+  one_edge c i k (led (from e f)) = meets_edge _ _ f
 
   pub drawn_edge : (i k : ℕ) → Drawn i k → Edges i k
   drawn_edge i k B = one_edge B.one i k B.draws
@@ -182,10 +214,11 @@ module _ (commands lengths generations heads leaders : List ℕ) (H : Headed len
       rw q (drawn i i (i + 1) (omega arith) (next (pair _ _ (lt-ltb _ _ (rw q at lk)) (ap not (rw q at (begins k lk ∙ f))))))
   edge_drawn i k (meets li lk ri sk a e) =
       let M : Meeting commands generations i k = record { from = li; to = lk; register = ri; sync = sk; barrier = a; generation = e } in
-      let N = sync_led commands generations leaders S k lk sk in
+      let (l, q) = sync_led commands generations leaders S k lk sk in
+      let N = meets_parts commands generations k l (leader_met commands generations leaders k q) in
       let same = same_leader commands generations leaders i k M in
-      let there : Reach Drawn i (leader commands generations leaders i) = drawn i i _ li (to (rw same (parts_meet commands generations (meets_on commands generations M N)))) in
-      reach_join (rw same at there) (drawn k _ k lk (from (parts_meet commands generations (meets_beside commands generations N (meets_itself commands generations k lk sk)))))
+      reach_join (drawn i i l li (led (to (same ∙ q))))
+      (drawn k l k lk (led (from q (parts_meet commands generations (meets_beside commands generations N (meets_itself commands generations k lk sk))))))
 
 -- ---- the list that is handed on
 

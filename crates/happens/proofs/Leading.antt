@@ -3,12 +3,13 @@ use mathlib.Core.Path.{◌≡◌, refl, sym, ap, ap₂, fun_ext, ◌∙◌}
 use mathlib.Core.Logic.{by_cases, ⊎_elim, ◌≢◌}
 use mathlib.Core.Bool.{Bool, true, false}
 use mathlib.Core.List.{List}
-use Prim.Native.Nat.{ℕ, suc, ◌+◌, ◌-◌, ◌≤◌, ◌<◌}
-use native.Mathlib.Decide.{ℕ_discrete}
+use Prim.Native.Nat.{ℕ, zero, suc, ◌+◌, ◌-◌, ◌≤◌, ◌<◌}
+use native.Mathlib.Decide.{ℕ_discrete, dec_lt}
 use native.Mathlib.Omega.{arith}
 use lib.ListN.{length, get_or, set}
 use lib.Seq.{get_or-set_same, get_or-set_other}
 use borrow.Author.Tests.{eqb-true, eq-eqb, lt-ltb, le-ltb, ltb-true, le-leb}
+use Rattle.std.specs.Prelude.{Some, None}
 use Rattle.tables.specs.Rows.{rows, kind, name, arrive, sync, registers, syncs}
 use Rattle.relation.proofs.Truth.{split, clashing, same_test, both, pair}
 use Rattle.rooms.specs.Rooms.{number_at}
@@ -16,23 +17,34 @@ use Rattle.happens.specs.Needs.{does_meet_row, last_below, or_last, seat, sits, 
 
 -- ---- the last number below n that a test finds
 
-module _ (found : ℕ → Bool) (none : ℕ) where
-  pub last_here : (j : ℕ) → 0 < j → found (j - 1) ≡ true → last_below found none j ≡ j - 1
+module _ (found : ℕ → Bool) where
+  pub last_here : (j : ℕ) → 0 < j → found (j - 1) ≡ true → last_below found j ≡ Some (j - 1)
   unfolding last_below
-  last_here Prim.Native.Nat.zero l e = elim l [ ]
+  last_here zero l e = elim l [ ]
   last_here (suc j) l e = let q : suc j - 1 ≡ j = omega arith in rw (q, rw q at e)
 
-  pub last_on : (j : ℕ) → 0 < j → found (j - 1) ≡ false → last_below found none j ≡ last_below found none (j - 1)
+  pub last_on : (j : ℕ) → 0 < j → found (j - 1) ≡ false → last_below found j ≡ last_below found (j - 1)
   unfolding last_below
-  last_on Prim.Native.Nat.zero l e = elim l [ ]
+  last_on zero l e = elim l [ ]
   last_on (suc j) l e = let q : suc j - 1 ≡ j = omega arith in rw (q, rw q at e)
 
-  -- it is found, where there is one
-  last_found : (n k : ℕ) → k < n → found k ≡ true → found (last_below found none n) ≡ true
+  pub last_none : last_below found 0 ≡ None
   unfolding last_below
-  last_found Prim.Native.Nat.zero k l e = elim l [ ]
+  last_none = refl
+
+  -- what is found passes
+  last_is : (n : ℕ) {l : ℕ} → last_below found n ≡ Some l → found l ≡ true
+  unfolding last_below
+  last_is zero e = cc
+  last_is (suc n) {l} e =
+      ⊎_elim (λ (t : found n ≡ true). let q : n ≡ l = (let h = rw t at e in cc) in rw q at t) (λ (f : found n ≡ false). last_is n (rw f at e)) (split (found n))
+
+  -- it is found, where there is one
+  last_found : (n k : ℕ) → k < n → found k ≡ true → (l : ℕ) × (last_below found n ≡ Some l)
+  unfolding last_below
+  last_found zero k l e = elim l [ ]
   last_found (suc n) k l e =
-      ⊎_elim (λ (t : found n ≡ true). rw t t)
+      ⊎_elim (λ (t : found n ≡ true). (n, rw t))
       (λ (f : found n ≡ false).
       rw f
       (by_cases (ℕ_discrete k n) (λ (q : k ≡ n). clashing e (ap found q ∙ f)) (λ (d : k ≢ n). last_found n k (omega arith) e)))
@@ -41,21 +53,30 @@ module _ (found : ℕ → Bool) (none : ℕ) where
 -- ---- one that may be found without a search
 
 module _ (found : ℕ → Bool) (s m : ℕ) where
-  pub or_here : found s ≡ true → or_last found s m ≡ s
+  pub or_here : found s ≡ true → or_last found s m ≡ Some s
   unfolding or_last
   or_here t = rw t
 
-  pub or_last_lem : found s ≡ false → s < m → or_last found s m ≡ last_below found m m
+  pub or_last_lem : found s ≡ false → s < m → or_last found s m ≡ last_below found m
   unfolding or_last
   or_last_lem f l = rw (f, lt-ltb s m l)
 
-  pub or_none : found s ≡ false → m ≤ s → or_last found s m ≡ m
+  pub or_none : found s ≡ false → m ≤ s → or_last found s m ≡ None
   unfolding or_last
   or_none f l = rw (f, le-ltb s m l)
 
-  or_last_found : s < m → (k : ℕ) → k < m → found k ≡ true → found (or_last found s m) ≡ true
+  or_last_is : {l : ℕ} → or_last found s m ≡ Some l → found l ≡ true
+  or_last_is {l} e =
+      ⊎_elim (λ (t : found s ≡ true). let q : s ≡ l = (let h = or_here t in cc) in rw q at t)
+      (λ (f : found s ≡ false).
+      by_cases (dec_lt s m) (λ (h : s < m). last_is found m (sym (or_last_lem f h) ∙ e))
+      (λ (h : ¬ (s < m)). let n = or_none f (omega arith) in cc))
+      (split (found s))
+
+  or_last_found : s < m → (k : ℕ) → k < m → found k ≡ true → (l : ℕ) × (or_last found s m ≡ Some l)
   or_last_found ls k l e =
-      ⊎_elim (λ (t : found s ≡ true). rw (or_here t) t) (λ (f : found s ≡ false). rw (or_last_lem f ls) (last_found found m m k l e)) (split (found s))
+      ⊎_elim (λ (t : found s ≡ true). (s, or_here t))
+      (λ (f : found s ≡ false). let (x, q) = last_found found m k l e in (x, or_last_lem f ls ∙ q)) (split (found s))
 
 -- ---- commands that meet
 
@@ -122,10 +143,14 @@ module _ (commands generations : List ℕ) where
         (fun_ext (λ j. same_test _ _ (λ e. parts_meet (meets_beside M (meets_parts i j e))) (λ e. parts_meet (meets_on M (meets_parts k j e)))))
         (ap (λ (p : ℕ). get_or leaders p 0) (rw (M.barrier, M.generation)))
 
-    -- each sync meets its leader
+    -- a command meets its leader
+    pub leader_met : (c : ℕ) {l : ℕ} → leader commands generations leaders c ≡ Some l → does_meet_row commands generations c l ≡ true
+    leader_met c e = or_last_is (does_meet_row commands generations c) (sits commands generations leaders c) (rows commands) e
+
+    -- each sync has one
     pub sync_led : Seated commands generations leaders (rows commands) → (k : ℕ) → k < rows commands → syncs commands k ≡ true
-        → Meeting commands generations k (leader commands generations leaders k)
-    sync_led S k l s = meets_parts k _ (or_last_found (does_meet_row commands generations k) (sits commands generations leaders k) (rows commands) (S k l s) k l (parts_meet (meets_itself k l s)))
+        → (l : ℕ) × (leader commands generations leaders k ≡ Some l)
+    sync_led S k l s = or_last_found (does_meet_row commands generations k) (sits commands generations leaders k) (rows commands) (S k l s) k l (parts_meet (meets_itself k l s))
 
     -- one more sync takes its seat
     pub seated_more : (c : ℕ) → c < rows commands → seat commands generations c < length leaders → Seated commands generations leaders c

@@ -4,6 +4,7 @@
 ghost use Rattle.std.specs.Prelude.{◌≡◌, ◌≤◌, ◌<◌, length};
 ghost use Rattle.tables.specs.Limits.{most_rows};
 ghost use Rattle.tables.specs.Rows.{rows};
+ghost use Rattle.tables.specs.Heads.{own_head};
 ghost use Rattle.rooms.specs.Rooms.{number_at};
 ghost use Rattle.happens.specs.HappensBefore.{meets};
 ghost use Rattle.happens.specs.Needs.{does_meet_row, follows};
@@ -11,6 +12,7 @@ ghost use Rattle.happens.specs.Needs.{does_meet_row, follows};
 use tables::{Table, is_first, same_name};
 
 // Commands, the generations that are offered for them, and the heads of the rows.
+#[derive(Clone, Copy)]
 pub(crate) struct Offered<'a> {
     pub(crate) commands: &'a [u32],
     pub(crate) generations: &'a [u32],
@@ -47,12 +49,21 @@ impl Offered<'_> {
         i < m && j < m && self.meets(i, j)
     }
 
+    // Does a thread begin at row c?
+    pub(crate) fn begins(&self, c: usize) -> bool
+        requires { c < most_rows }
+        ensures { result ≡ own_head self.now.heads.now c }
+    {
+        let heads = self.heads;
+        is_first(heads, c)
+    }
+
     // Is the row after c there, and of c's thread?
     pub(crate) fn follows(&self, c: usize) -> bool
         requires { c < rows self.now.commands.now }
         ensures { result ≡ follows self.now.heads.now (rows self.now.commands.now) c }
     {
         let next = c + 1;
-        next < self.rows() && !is_first(self.heads, next)
+        next < self.rows() && !self.begins(next)
     }
 }

@@ -5,8 +5,9 @@ ghost use Rattle.rooms.specs.Needs.{Ample};
 ghost use Rattle.happens.specs.HappensBefore.{Reached};
 ghost use Rattle.happens.specs.Promise.{PutsHappensBefore};
 
+use crate::edges::Offered;
 use crate::leaders::{SEATS, choose};
-use crate::pairs::{NUMBERS, put_pairs};
+use crate::pairs::{Listed, NUMBERS, put_pairs};
 use rooms::refuse_sizes;
 use sweeps::put_reach;
 use tables::{Table, Tables, put_heads};
@@ -18,22 +19,29 @@ fn put_reached(tables: Tables, generations: &[u32], relation: &mut [u32])
     ensures { Reached tables.entry.commands.now tables.entry.lengths.now (number_at generations.now)
         relation.old relation.new }
 {
-    let commands = tables.commands;
     let mut heads = [0; Table::ROWS];
     put_heads(tables.lengths, &mut heads);
-    let mut leaders = [Table::ROWS as u16; SEATS];
-    choose(commands, generations, &mut leaders);
-    let mut pairs = [0u32; NUMBERS];
-    let mut parts = [0u32; Table::THREADS];
-    let end = put_pairs(
-        commands,
+    let offered = Offered {
+        commands: tables.commands,
         generations,
-        &heads,
-        &leaders,
-        &mut pairs,
-        &mut parts,
-    ) * 2;
-    put_reach(relation, (commands.len() / 3) as u32, &pairs[..end], &parts);
+        heads: &heads,
+    };
+    let mut leaders = [Table::ROWS as u16; SEATS];
+    choose(&offered, &mut leaders);
+    let mut listed = Listed {
+        numbers: [0; NUMBERS],
+        count: 0,
+        parts: [0; Table::THREADS],
+        ended: 0,
+    };
+    put_pairs(&offered, &leaders, &mut listed);
+    let end = listed.count * 2;
+    put_reach(
+        relation,
+        offered.rows() as u32,
+        &listed.numbers[..end],
+        &listed.parts,
+    );
 }
 
 // Happens-before over the generations, into any room. A refusal leaves the room as it was.

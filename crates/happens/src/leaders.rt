@@ -36,7 +36,12 @@ pub(crate) fn choose(offered: &Offered, leaders: &mut [u16; SEATS])
 fn last_met(offered: &Offered, c: usize) -> Option<usize>
     ensures { result ≡ last_met_of offered.now.commands.now offered.now.generations.now c }
 {
-    (0..offered.rows()).rev().find(|&j| offered.meets_row(c, j))
+    for j in (0..offered.rows()).rev() {
+        if offered.meets_row(c, j) {
+            return Some(j);
+        }
+    }
+    None
 }
 
 // The leader of c's barrier and generation, if c meets a sync. Only where generations are larger than a review's can another sit in its seat, and then all rows are looked through.

@@ -1,18 +1,22 @@
 // The pairs that happens-before is made of, in a list: for each command its thread's next, and its leader both ways.
 #![tactic(auto, unfolding(tables::specs::Limits::most_rows))]
 
-ghost use Rattle.std.specs.Prelude.{◌≡◌, ◌+◌, ◌*◌, ◌≤◌, ◌<◌, take};
+ghost use Rattle.std.specs.Prelude.{◌≡◌, ◌+◌, ◌*◌, ◌≤◌, ◌<◌};
 ghost use Rattle.tables.specs.Limits.{most_rows};
 ghost use Rattle.tables.specs.Rows.{rows};
-ghost use Rattle.happens.specs.Needs.{Draws, DrawsBelow, Adds, OnePair};
+ghost use Rattle.happens.specs.Needs.{Led, Draws, DrawsBelow, Adds, OnePair};
 
 use crate::edges::Offered;
 use crate::leaders::{SEATS, leader};
-use tables::{Table, is_first};
+use tables::Table;
 
-// Two numbers for a pair, as `put_reach` takes them, with how many pairs there are: no heap, so the room is that of three pairs for each command. Beside them are the parts, which end before a pair that they tell.
+// Two numbers for a pair, and three pairs for a command.
+pub(crate) const NUMBERS: usize = 6 * Table::ROWS;
+
+// The pairs, as `put_reach` takes them, and how many there are; and the parts, each told by the pair that it ends before. There is no heap, so both rooms have their length beside them.
+#[derive(Drop)]
 pub(crate) struct Listed {
-    pub(crate) numbers: [u32; 6 * Table::ROWS],
+    pub(crate) numbers: [u32; NUMBERS],
     pub(crate) count: usize,
     pub(crate) parts: [u32; Table::THREADS],
     pub(crate) ended: usize,
@@ -43,11 +47,10 @@ impl Listed {
     }
 }
 
-// The pairs of command c. A sweep goes from the last pair on, so that the next command, which stands last, is joined first.
-fn put_command(offered: &Offered, leaders: &[u16; SEATS], c: usize, listed: &mut Listed)
-    requires { (listed.old.count + 3 ≤ 3 * most_rows) × (c < rows offered.now.commands.now) }
-    ensures { Adds 3 (Draws offered.now.commands.now offered.now.generations.now
-        offered.now.heads.now leaders.now c)
+// The pairs of command c and its leader.
+fn put_leader(offered: &Offered, leaders: &[u16; SEATS], c: usize, listed: &mut Listed)
+    requires { (listed.old.count + 2 ≤ 3 * most_rows) × (c < rows offered.now.commands.now) }
+    ensures { Adds 2 (Led offered.now.commands.now offered.now.generations.now leaders.now c)
         listed.old.numbers listed.new.numbers listed.old.count listed.new.count }
 {
     if let Some(l) = leader(offered, leaders, c) {
@@ -56,29 +59,33 @@ fn put_command(offered: &Offered, leaders: &[u16; SEATS], c: usize, listed: &mut
         }
         listed.push(c, l);
     }
+}
+
+// The pairs of command c. A sweep goes from the last pair on, so that the next command, which stands last, is joined first.
+fn put_command(offered: &Offered, leaders: &[u16; SEATS], c: usize, listed: &mut Listed)
+    requires { (listed.old.count + 3 ≤ 3 * most_rows) × (c < rows offered.now.commands.now) }
+    ensures { Adds 3 (Draws offered.now.commands.now offered.now.generations.now
+        offered.now.heads.now leaders.now c)
+        listed.old.numbers listed.new.numbers listed.old.count listed.new.count }
+{
+    put_leader(offered, leaders, c, listed);
     if offered.follows(c) {
         listed.push(c, c + 1);
     }
 }
 
-// The pairs of all commands.
-pub(crate) fn put_pairs(offered: &Offered, leaders: &[u16; SEATS]) -> Listed
+// The pairs of all commands, into a list that has none.
+pub(crate) fn put_pairs(offered: &Offered, leaders: &[u16; SEATS], listed: &mut Listed)
+    requires { listed.old.count ≡ 0 }
     ensures { Adds (3 * rows offered.now.commands.now)
         (DrawsBelow offered.now.commands.now offered.now.generations.now
         offered.now.heads.now leaders.now (rows offered.now.commands.now))
-        result.numbers result.numbers 0 result.count }
+        listed.old.numbers listed.new.numbers 0 listed.new.count }
 {
-    let mut listed = Listed {
-        numbers: [0; 6 * Table::ROWS],
-        count: 0,
-        parts: [0; Table::THREADS],
-        ended: 0,
-    };
     for c in 0..offered.rows() {
-        if is_first(offered.heads, c) {
+        if offered.begins(c) {
             listed.end_part();
         }
-        put_command(offered, leaders, c, &mut listed);
+        put_command(offered, leaders, c, listed);
     }
-    listed
 }
