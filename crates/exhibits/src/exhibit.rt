@@ -32,8 +32,7 @@ fn fill_apart(
         (apart_schedule commands.now lengths.now (related relation.now (rows commands.now)) c d)
         room.old room.new result }
 {
-    let written = write_apart(commands, lengths, relation, c, d, room);
-    written.length
+    write_apart(commands, lengths, relation, c, d, room).unwrap()
 }
 
 // Of a race, x first.
