@@ -38,8 +38,7 @@ fn judge_tables(
         result relation.new generations.new }
 {
     let mut schedule = [0u32; Table::ROWS];
-    let written = write_schedule(commands, lengths, &mut schedule);
-    let steps = written.length;
+    let steps = write_schedule(commands, lengths, &mut schedule).unwrap_or(0);
     let found = review(commands, lengths, &schedule[..steps], relation, generations);
     let verdict = found.verdict;
     let sheet = found.sheet;
