@@ -24,7 +24,6 @@ use Rattle.verdicts.proofs.Verdicts.{refused_some}
 use Rattle.replay.specs.Doors.{WritesSchedule}
 use Rattle.verdicts.specs.declared.Told.{Told}
 use Rattle.replay.specs.Writer.{schedule, unwritten}
-use Rattle.steps.specs.Writing.{FilledBy}
 use Rattle.replay.proofs.Refusals.{keeps_written}
 use Rattle.findings.specs.declared.finding.Finding.{Finding}
 use Rattle.review.specs.Agreement.{Reviewed}

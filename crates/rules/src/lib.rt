@@ -30,7 +30,8 @@ fn first_bad(commands: &[u32], threads: usize) -> Option<usize>
     ensures { result ≡ first_broken commands.now threads }
 {
     let (rows, _) = commands.as_chunks::<3>();
-    rows.iter().position(|row| !keeps_rules(threads, row[0], row[1], row[2]))
+    rows.iter()
+        .position(|row| !keeps_rules(threads, row[0], row[1], row[2]))
 }
 
 // Are the command numbers no multiple of 3, or the rows too many? No row is looked at.

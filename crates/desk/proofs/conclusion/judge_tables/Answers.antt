@@ -1,6 +1,5 @@
 -- `judge_tables` meets its contract. Assumes nothing.
 use mathlib.Core.Path.{sym}
-use native.Mathlib.Omega.{arith}
 use lib.Seq.{length-take-le}
 use Rattle.desk.proofs.Tabled.{full_rows, steps_fit, steps_are, judged_tables}
 use Rattle.desk.proofs.conclusion.judge_tables.Goals as goal
