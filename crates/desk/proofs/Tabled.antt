@@ -17,11 +17,13 @@ use Rattle.verdicts.proofs.Numbers.{few_refusal, refusal_unfilled, pairs_fill}
 use Rattle.rules.proofs.Rules.{passes_zero, checked_small}
 use Rattle.relation.specs.Table.{words}
 use Rattle.relation.proofs.Truth.{clashing}
-use Rattle.replay.specs.declared.writer.Written.{Written}
+use Rattle.std.specs.Result.{result_unwrap_or}
+use Rattle.std.specs.Prelude.{Result, Ok, Err}
+use Rattle.verdicts.specs.declared.Refusal.{Refusal}
+use Rattle.verdicts.proofs.Verdicts.{refused_some}
 use Rattle.replay.specs.Doors.{WritesSchedule}
 use Rattle.verdicts.specs.declared.Told.{Told}
 use Rattle.replay.specs.Writer.{schedule, unwritten}
-use Rattle.steps.specs.Writing.{FilledBy}
 use Rattle.replay.proofs.Refusals.{keeps_written}
 use Rattle.findings.specs.declared.finding.Finding.{Finding}
 use Rattle.review.specs.Agreement.{Reviewed}
@@ -48,21 +50,20 @@ roomy commands lengths room e l =
     let K = passes_zero commands lengths e in
     keeps_written commands lengths room K (omega (arith, K.few_rows))
 
--- what the writer left in a full room
-module _ {commands lengths before after : List ℕ} {w : Written} (W : WritesSchedule commands lengths before after w) (full : length before ≡ most_rows) where
-  filled : (checked commands lengths).number ≡ 0 → FilledBy (schedule commands lengths) before after w.length
-  filled e = W.wrote (ap (λ (t : Told). t.number) W.verdict ∙ roomy commands lengths (length before) e (omega arith))
+-- what the writer left in a full room, and how many steps; none where it refused
+module _ {commands lengths before after : List ℕ} (full : length before ≡ most_rows) where
+  pub steps_fit : (w : Result ℕ Refusal) → WritesSchedule commands lengths before after w → {n : ℕ} → n ≡ result_unwrap_or w 0 → length after ≡ length before → n ≤ length after
+  steps_fit (Ok k) W e s =
+      let F = W.wrote in omega (arith, F.long, full, s, ap (λ (l : List ℕ). length l) (filled_room F), length-append (schedule commands lengths) (drop k before))
+  steps_fit (Err r) W e s = omega arith
 
-  pub steps_fit : length after ≡ length before → w.length ≤ length after
-  steps_fit s =
-      by_cases (ℕ_discrete (numbered w.verdict).number 0)
-      (λ (e : (numbered w.verdict).number ≡ 0).
-      let F = W.wrote e in
-      omega (arith, F.long, full, s, ap (λ (l : List ℕ). length l) (filled_room F), length-append (schedule commands lengths) (drop w.length before)))
-      (λ (n : (numbered w.verdict).number ≢ 0). omega (arith, (W.refused n).0))
-
-  pub steps_are : (checked commands lengths).number ≡ 0 → take w.length after ≡ schedule commands lengths
-  steps_are e = let F = filled e in ap (λ (l : List ℕ). take w.length l) (filled_room F) ∙ take_at (schedule commands lengths) (drop w.length before) w.length (sym F.long)
+  pub steps_are : (w : Result ℕ Refusal) → WritesSchedule commands lengths before after w → {n : ℕ} → n ≡ result_unwrap_or w 0
+      → (checked commands lengths).number ≡ 0 → take n after ≡ schedule commands lengths
+  steps_are (Ok k) W e z =
+      let F = W.wrote in
+      ap (λ (n : ℕ). take n after) e ∙ ap (λ (l : List ℕ). take k l) (filled_room F) ∙ take_at (schedule commands lengths) (drop k before) k (sym F.long)
+  steps_are (Err r) W e z =
+      absurd (refused_some r (ap (λ (t : Told). t.number) W.refusal ∙ roomy commands lengths (length before) z (omega arith)))
 
 -- what the check tells of tables, and is not 0, fills nothing
 checked_unfilled : (commands lengths : List ℕ) → (checked commands lengths).number ≢ 0 → fills (checked commands lengths).number ≡ false

@@ -33,8 +33,7 @@ fn judge_tables(tables: Tables, relation: &mut [u32], generations: &mut [u32]) -
         result relation.new generations.new }
 {
     let mut schedule = [0u32; Table::ROWS];
-    let written = write_schedule(tables, &mut schedule);
-    let steps = written.length;
+    let steps = write_schedule(tables, &mut schedule).unwrap_or(0);
     let found = review(tables, &schedule[..steps], relation, generations);
     let verdict = found.verdict;
     let sheet = found.sheet;

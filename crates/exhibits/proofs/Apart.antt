@@ -8,14 +8,10 @@ use lib.Seq.{length-take-le, take_at}
 use Rattle.tables.specs.Limits.{most_rows}
 use Rattle.tables.specs.Rows.{rows}
 use Rattle.rules.specs.Rules.{Keeps}
-use Rattle.verdicts.specs.declared.Told.{Told}
 use Rattle.printing.specs.declared.Printer.{Printer}
 use Rattle.printing.specs.Putting.{Puts}
 use Rattle.printing.proofs.Placing.{puts_on}
-use Rattle.replay.specs.declared.writer.Written.{Written}
-use Rattle.replay.proofs.Refusals.{keeps_written}
 use Rattle.steps.specs.Writing.{FilledBy}
-use Rattle.replay.specs.Doors.{WritesBy}
 use Rattle.wording.specs.declared.Shown.{Shown}
 use Rattle.exhibits.specs.Shown.{what_is_shown}
 use Rattle.wording.specs.Lines.{shown_line, steps_line}
@@ -26,11 +22,6 @@ use Rattle.steps.proofs.Filled.{filled_room}
 pub full_room : {commands lengths : List ℕ} → Keeps commands lengths → Keeps commands lengths × (rows commands ≤ length (replicate {A = ℕ} 512 0))
 unfolding most_rows
 full_room K = (K, omega (arith, K.few_rows, length-replicate {A = ℕ} 512 0))
-
--- where there is place, it is written
-pub fills : {σ commands lengths room after : List ℕ} {w : Written} → Keeps commands lengths × (rows commands ≤ length room) → WritesBy σ commands lengths room after w → FilledBy σ room after w.length
-fills {commands = commands} {lengths = lengths} {room = room} F W =
-    W.wrote (ap (λ (t : Told). t.number) W.verdict ∙ keeps_written commands lengths (length room) F.0 F.1)
 
 -- the front of the room is the schedule
 module _ {σ room after : List ℕ} {n : ℕ} (B : FilledBy σ room after n) where

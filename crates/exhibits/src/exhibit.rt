@@ -26,8 +26,7 @@ fn fill_apart(tables: Tables, relation: &[u32], c: usize, d: usize, room: &mut [
         (apart_schedule tables.entry.commands.now tables.entry.lengths.now (related relation.now (rows tables.entry.commands.now)) c d)
         room.old room.new result }
 {
-    let written = write_apart(tables, relation, c, d, room);
-    written.length
+    write_apart(tables, relation, c, d, room).unwrap()
 }
 
 // Two tables that pass, with the generation of each command and what it reaches.

@@ -1,15 +1,13 @@
 -- What is told fits the places of an answer room: no cast loses a bit. Assumes nothing.
-use mathlib.Core.Path.{◌≡◌, refl, sym, ap, ◌∙◌}
-use mathlib.Core.Logic.{by_cases, ◌≢◌}
+use mathlib.Core.Path.{◌≡◌, refl, sym, ap}
 use mathlib.Core.List.{List, []}
 use Prim.Native.Nat.{ℕ, ◌≤◌}
-use native.Mathlib.Decide.{ℕ_discrete}
 use native.Mathlib.Omega.{arith}
 use lib.ListN.{length}
 use Rattle.tables.specs.Limits.{most_rows, most_threads}
 use Rattle.tables.specs.Rows.{rows}
 use Rattle.rules.specs.Rules.{checked}
-use Rattle.verdicts.specs.Verdicts.{numbered}
+use Rattle.verdicts.specs.Verdicts.{told_of, numbered}
 use Rattle.verdicts.specs.declared.Told.{Told}
 use Rattle.grammar.specs.Grammar.{all_commands, threads}
 use Rattle.notation.specs.Reading.{most_bytes, Reading, answered, rest_at}
@@ -20,7 +18,9 @@ use Rattle.rooms.specs.Short.{room_of, first_short}
 use Rattle.rooms.proofs.Rooms.{first_either, none_either}
 use Rattle.replay.specs.Writer.{writer_rooms, unwritten}
 use Rattle.replay.specs.Doors.{WritesSchedule}
-use Rattle.replay.specs.declared.writer.Written.{Written}
+use Rattle.std.specs.Result.{result_unwrap_or}
+use Rattle.std.specs.Prelude.{Result, Ok, Err}
+use Rattle.verdicts.specs.declared.Refusal.{Refusal}
 use Rattle.verdicts.proofs.FirstTold.{or_either}
 use Rattle.replay.proofs.Refusals.{unwritten_keeps}
 use Rattle.replay.proofs.Places.{Placed, placed, checked_placed, schedule_few}
@@ -63,20 +63,18 @@ unwritten_placed commands lengths room =
     (λ _. first_either (room_of 2 (rows commands) room) [] Placed (placed 4 2 (omega arith)) (none_either Placed (placed 0 0 (omega arith))))
 
 -- and there are few where a schedule is written
-module _ {commands lengths room room' : List ℕ} {r : Written} (W : WritesSchedule commands lengths room room' r) where
-  written_few : r.length ≤ most_rows
-  written_few =
-      by_cases (ℕ_discrete (numbered r.verdict).number 0)
-      (λ (e : (numbered r.verdict).number ≡ 0).
-      let K = unwritten_keeps commands lengths (length room) (ap (λ (t : Told). t.number) (sym W.verdict) ∙ e) in
-      omega (arith, (W.wrote e).long, schedule_few commands lengths, K.few_rows))
-      (λ (n : (numbered r.verdict).number ≢ 0). omega (arith, (W.refused n).0))
+module _ {commands lengths room room' : List ℕ} where
+  written_few : (r : Result ℕ Refusal) → WritesSchedule commands lengths room room' r → result_unwrap_or r 0 ≤ most_rows
+  written_few (Err e) W = omega arith
+  written_few (Ok n) W =
+      let K = unwritten_keeps commands lengths (length room) (ap (λ (t : Told). t.number) (sym W.refusal)) in
+      omega (arith, W.wrote.long, schedule_few commands lengths, K.few_rows)
 
-  pub written_counted : Counted (numbered r.verdict) r.length 0
+  pub written_counted : (r : Result ℕ Refusal) → WritesSchedule commands lengths room room' r → Counted (told_of r) (result_unwrap_or r 0) 0
   unfolding most_rows
-  written_counted =
-      let l : Placed (numbered r.verdict) = rw W.verdict (unwritten_placed commands lengths (length room)) in
-      record { place = omega (arith, l.place); also = omega (arith, l.also); third = omega (arith, written_few); fourth = omega arith }
+  written_counted r W =
+      let l : Placed (told_of r) = rw W.refusal (unwritten_placed commands lengths (length room)) in
+      record { place = omega (arith, l.place); also = omega (arith, l.also); third = omega (arith, written_few r W); fourth = omega arith }
 
 -- ---- the reader
 

@@ -4,13 +4,15 @@ use mathlib.Core.List.{List, ◌++◌}
 use Prim.Native.Nat.{ℕ, ◌-◌, ◌/◌, ◌%◌, ◌^◌, ◌≤◌, ◌<◌, min}
 use native.Mathlib.Omega.{arith}
 use lib.ListN.{length, set, take, length-drop}
-use Rattle.verdicts.specs.Verdicts.{tell, numbered}
+use Rattle.verdicts.specs.Verdicts.{tell, told_of, numbered}
 use Rattle.verdicts.specs.declared.Told.{Told}
 use Rattle.tables.specs.Over.{over}
 use Rattle.notation.specs.Reading.{Reading, sizes, answered, rest_at, rest_of}
 use Rattle.notation.specs.Promise.{Read}
 use Rattle.replay.specs.Doors.{WritesSchedule}
-use Rattle.replay.specs.declared.writer.Written.{Written}
+use Rattle.std.specs.Result.{result_unwrap_or}
+use Rattle.std.specs.Prelude.{Result}
+use Rattle.verdicts.specs.declared.Refusal.{Refusal}
 use Rattle.evidence.specs.declared.door.Evidence.{Evidence}
 use Rattle.evidence.specs.Doors.{Evidenced}
 use Rattle.runs.specs.declared.Course.{Course}
@@ -43,11 +45,14 @@ module _ (commands lengths room answer : List ℕ) where
   pub schedule_short : length answer < answer_room → ProbesSchedule commands lengths room answer room answer 14
   schedule_short h = record { refuses = λ _. (refl, refl, refl); wrote = λ l. absurd (omega arith) }
 
-  pub schedule_told : {r : Written} {room' answer' : List ℕ} {t : Told} → answer_room ≤ length answer
-      → WritesSchedule commands lengths room room' r → t ≡ numbered r.verdict → answer' ≡ over (told_numbers t r.length 0) answer
+  pub schedule_told : (r : Result ℕ Refusal) {room' answer' : List ℕ} {t : Told} → answer_room ≤ length answer
+      → WritesSchedule commands lengths room room' r → t ≡ told_of r → answer' ≡ over (told_numbers t (result_unwrap_or r 0) 0) answer
       → ProbesSchedule commands lengths room answer room' answer' t.number
-  schedule_told {r} h W e p =
-      record { refuses = λ l. absurd (omega arith); wrote = λ _. (r, W, ap (λ (t : Told). t.number) e, p ∙ ap (λ (t : Told). over (told_numbers t r.length 0) answer) e) }
+  schedule_told r h W e p =
+      record {
+        refuses = λ l. absurd (omega arith);
+        wrote = λ _. (r, W, ap (λ (t : Told). t.number) e, p ∙ ap (λ (t : Told). over (told_numbers t (result_unwrap_or r 0) 0) answer) e);
+      }
 
 -- none of either is found in a text that is refused
 pub sizes_found : (r : Reading) → result_unwrap_or r (sizes 0 0) ≡ sizes (answered r).command_count (answered r).thread_count

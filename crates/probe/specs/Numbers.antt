@@ -1,9 +1,10 @@
 -- The numbers that an answer room gets, from its first place on (R84).
-use Rattle.std.specs.Prelude.{List, [], ◌∷◌, ◌++◌, ℕ, ◌/◌, ◌%◌, ◌^◌, min}
-use Rattle.verdicts.specs.Verdicts.{tell, numbered}
+use Rattle.std.specs.Prelude.{List, [], ◌∷◌, ◌++◌, ℕ, ◌/◌, ◌%◌, ◌^◌, min, Result}
+use Rattle.std.specs.Result.{result_unwrap_or}
+use Rattle.verdicts.specs.Verdicts.{tell, told_of, numbered}
+use Rattle.verdicts.specs.declared.Refusal.{Refusal}
 use Rattle.verdicts.specs.declared.Told.{Told}
 use Rattle.notation.specs.Reading.{Reading, answered, rest_at}
-use Rattle.replay.specs.declared.writer.Written.{Written}
 use Rattle.sheet.specs.declared.Pair.{Pair}
 use Rattle.evidence.specs.declared.door.Evidence.{Evidence}
 use Rattle.runs.specs.declared.Course.{Course}
@@ -29,9 +30,9 @@ pair_numbers (p ∷ ps) = p.first ∷ p.second ∷ pair_numbers ps
 abbrev pub review_numbers : Evidence → List ℕ
 review_numbers r = told_numbers (numbered r.finding.verdict) r.finding.sheet.total r.entries ++ pair_numbers r.finding.sheet.pairs
 
--- those of a written schedule: its length stands third (R84)
-abbrev pub written_numbers : Written → List ℕ
-written_numbers r = told_numbers (numbered r.verdict) r.length 0
+-- those of a written schedule: its length stands third, or 0 where it was refused (R84)
+abbrev pub written_numbers : Result ℕ Refusal → List ℕ
+written_numbers r = told_numbers (told_of r) (result_unwrap_or r 0) 0
 
 -- Those of a reading of n bytes: then commands, threads, and where the rest begins. In a text of 4 GiB or more, which is refused by 13, that is told as the largest number (R84).
 abbrev pub reading_numbers : Reading → ℕ → List ℕ

@@ -11,7 +11,7 @@ use notation::{Sizes, read, rest, told};
 use replay::write_schedule;
 use runs::run_kernel;
 use tables::Tables;
-use verdicts::Told;
+use verdicts::{Told, Verdict};
 
 mod answer; // numbers into the answer room
 
@@ -63,11 +63,17 @@ pub extern "C" fn probe_schedule(
     if answer.len() < Answer::NUMBERS {
         return 14;
     }
-    let written = write_schedule(Tables { commands, lengths }, room);
-    let verdict = written.verdict;
-    let told = verdict.told();
-    put_told(answer, told, written.length, 0);
-    told.number
+    match write_schedule(Tables { commands, lengths }, room) {
+        Ok(length) => {
+            put_told(answer, Verdict::Clean.told(), length, 0);
+            0
+        }
+        Err(refusal) => {
+            let told = Verdict::from(refusal).told();
+            put_told(answer, told, 0, 0);
+            told.number
+        }
+    }
 }
 
 // 12, 13 or 0. `answer` gets the two places, the numbers of commands and threads, and where the rest of the text begins.

@@ -8,7 +8,7 @@ use steps::{Replayed, go_on};
 use tables::{Table, Tables};
 use verdicts::Verdict;
 
-// A verdict, and the generation of each command that ran.
+// A verdict, and the generation of each command that ran. No Result: 7 to 9 come with generations, too.
 #[derive(Clone, Copy)]
 pub struct Judged {
     pub verdict: Verdict,

@@ -11,7 +11,7 @@ pub struct Room {
     pub given: usize,
 }
 
-// The first of the rooms that is short.
+// The first of the rooms that is short. A loop, for no proof was found of what a `find` gave once it is matched.
 pub fn short_room(rooms: &[Room]) -> Result<(), Refusal>
     ensures { AnswersShortRoom rooms.now result }
 {

@@ -1,5 +1,5 @@
 -- The rows as three numbers each: the first that breaks the rules is the first bad row. Assumes nothing.
-use Rattle.std.proofs.Common.{◌≡◌, ℕ, zero, suc, ◌+◌, ◌*◌, ◌<◌, ◌≤◌, not, true, false, List, [], length, get_or, take, drop, refl, sym, ap, ◌∙◌, arith, Bool, cond, ltb, Option, Some, None, MatchOption}
+use Rattle.std.proofs.Common.{◌≡◌, ℕ, zero, suc, ◌+◌, ◌*◌, ◌<◌, ◌≤◌, not, true, false, List, [], length, get_or, drop, refl, ap, ◌∙◌, arith, Bool, cond, ltb, Some, None, MatchOption}
 use Rattle.std.specs.Simd.{first_chunks}
 use Rattle.std.specs.List.{position_or_len}
 use Rattle.std.proofs.lemmas.List.{get_or-take, get_or-drop}
@@ -9,7 +9,7 @@ use borrow.Author.Tests.{ltb-true, ltb-false}
 use Rattle.tables.specs.Rows.{rows, kind, name, count}
 use Rattle.tables.specs.Lowest.{lowest}
 use Rattle.tables.proofs.Lowest.{lowest_first}
-use Rattle.rules.specs.Rules.{does_row_keep, keeps, first_bad_of}
+use Rattle.rules.specs.Rules.{keeps, first_bad_of}
 use Rattle.rules.specs.Needs.{is_broken, first_broken}
 
 chunks_long : (n k : ℕ) (xs : List ℕ) → length (first_chunks n k xs) ≡ k

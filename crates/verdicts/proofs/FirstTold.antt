@@ -1,12 +1,11 @@
 -- Verdicts in the order tested: the first that is not 0 is told. Assumes nothing.
-use mathlib.Core.Path.{◌≡◌, refl, sym, ap, ◌∙◌, subst}
+use mathlib.Core.Path.{◌≡◌, refl, ap, ◌∙◌, subst}
 use mathlib.Core.Logic.{by_cases, ◌≢◌}
 use native.Mathlib.Decide.{ℕ_discrete}
 use borrow.Author.Tests.{eq-eqb, ne_eqb}
 use Rattle.verdicts.specs.declared.Told.{Told}
-use Rattle.verdicts.specs.declared.Verdict.{Verdict}
 use Rattle.verdicts.specs.declared.Refusal.{Refusal}
-use Rattle.verdicts.specs.Verdicts.{tell, refused, numbered}
+use Rattle.verdicts.specs.Verdicts.{tell, refused}
 use Rattle.verdicts.specs.FirstTold.{or_else}
 use Rattle.verdicts.proofs.Verdicts.{refused_some}
 
@@ -40,18 +39,3 @@ or_refused r e b = rw (← e) (or_first (refused r) b (refused_some r))
 
 pub or_passed : {a : Told} → tell 0 0 0 ≡ a → (b : Told) → b ≡ or_else a b
 or_passed e b = rw (← e) refl
-
--- a verdict v of which `told` was said
-module _ (v : Verdict) {told : Told} (said : told ≡ numbered v) where
-  pub number_is : told.number ≡ (numbered v).number
-  number_is = ap (λ (t : Told). t.number) said
-
-  pub said_first : (b : Told) → told.number ≢ 0 → numbered v ≡ or_else (numbered v) b
-  said_first b n = or_first (numbered v) b (λ e. n (number_is ∙ e))
-
-  pub said_second : (b : Told) → told.number ≡ 0 → b ≡ or_else (numbered v) b
-  said_second b e = or_second (numbered v) b (sym number_is ∙ e)
-
--- what v is the verdict of has number 0 where 0 was said
-pub said_zero : (v : Verdict) {told t : Told} → told ≡ numbered v → numbered v ≡ t → told.number ≡ 0 → t.number ≡ 0
-said_zero v said is e = ap (λ (t : Told). t.number) (sym is) ∙ sym (number_is v said) ∙ e

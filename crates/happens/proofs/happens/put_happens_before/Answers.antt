@@ -1,5 +1,5 @@
 -- `put_happens_before` meets its contract: refused before the room is touched, or what is listed reaches as far as happens-before. Assumes nothing.
-use mathlib.Core.Path.{refl, sym, ap, ◌∙◌}
+use mathlib.Core.Path.{refl, sym, ap}
 use Rattle.std.proofs.lemmas.Result.{err_from_is_err_and}
 use Rattle.verdicts.specs.declared.Told.{Told}
 use Rattle.rooms.proofs.Refusals.{ample}
