@@ -1,7 +1,6 @@
 -- `move_on` meets its contract, by the topmost entry. Assumes nothing.
-use mathlib.Core.Path.{◌≡◌, sym, ◌∙◌}
+use mathlib.Core.Path.{◌≡◌}
 use Prim.Native.Nat.{ℕ}
-use native.Mathlib.Omega.{arith}
 use Rattle.machine.specs.declared.stack.StackEntry.{StackEntry}
 use Rattle.machine.specs.declared.stack.StackEntry.TheVariants.{Row, Again, Token}
 use Rattle.machine.proofs.Obeying.{step_none, step_token, step_inact, step_row, step_again}
