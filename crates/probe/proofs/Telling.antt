@@ -4,7 +4,7 @@ use mathlib.Core.List.{List, ◌++◌}
 use Prim.Native.Nat.{ℕ, ◌-◌, ◌/◌, ◌%◌, ◌^◌, ◌≤◌, ◌<◌, min}
 use native.Mathlib.Omega.{arith}
 use lib.ListN.{length, set, take, length-drop}
-use Rattle.verdicts.specs.Verdicts.{tell, numbered}
+use Rattle.verdicts.specs.Verdicts.{numbered}
 use Rattle.verdicts.specs.declared.Told.{Told}
 use Rattle.tables.specs.Over.{over}
 use Rattle.notation.specs.Reading.{answered, rest_at, rest_of}
@@ -14,10 +14,13 @@ use Rattle.replay.specs.Doors.{WritesSchedule}
 use Rattle.replay.specs.declared.writer.Written.{Written}
 use Rattle.evidence.specs.declared.door.Evidence.{Evidence}
 use Rattle.evidence.specs.Doors.{Evidenced}
+use Rattle.std.specs.Prelude.{Result}
+use Rattle.kernels.specs.declared.kernel.Refusal.{Refusal}
 use Rattle.runs.specs.declared.Course.{Course}
+use Rattle.probe.specs.declared.ran.Ran.{Ran}
 use Rattle.runs.specs.Run.{RunsKernel}
 use Rattle.probe.specs.declared.sizes.Sizes.{Sizes}
-use Rattle.probe.specs.Numbers.{answer_room, largest, told_numbers, pair_numbers, sizes_of_reading}
+use Rattle.probe.specs.Numbers.{answer_room, largest, told_numbers, pair_numbers, sizes_of_reading, run_told}
 use Rattle.probe.specs.Promise.{ProbesReview, ProbesSchedule, ProbesRead, ProbesWarp}
 use Rattle.probe.proofs.Fitting.{rest_in}
 use Rattle.probe.proofs.Putting.{told_and_more, told_and_one, told_and_two}
@@ -77,9 +80,12 @@ module _ (statements expressions : List ℕ) (lanes steps : ℕ) (cells answer :
   pub warp_short : length answer < answer_room → ProbesWarp statements expressions lanes steps cells answer cells answer 14
   warp_short h = record { refuses = λ _. (refl, refl, refl); ran = λ l. absurd (omega arith) }
 
-  pub warp_told : {r : Course} {cells' answer' : List ℕ} → answer_room ≤ length answer → RunsKernel statements expressions lanes steps cells cells' r
-      → answer' ≡ over (told_numbers (tell r.number r.place 0) r.ending 0) answer
-      → ProbesWarp statements expressions lanes steps cells answer cells' (set (set answer' 4 (r.taken % 2 ^ 32)) 5 (r.taken / 2 ^ 32)) r.number
+  pub warp_told : {r : Result Course Refusal} {q : Ran} {cells' answer' : List ℕ} → answer_room ≤ length answer → RunsKernel statements expressions lanes steps cells cells' r → q ≡ run_told r
+      → answer' ≡ over (told_numbers q.told q.ending 0) answer
+      → ProbesWarp statements expressions lanes steps cells answer cells' (set (set answer' 4 (q.taken % 2 ^ 32)) 5 (q.taken / 2 ^ 32)) q.told.number
   unfolding answer_room
-  warp_told {r} h R p =
-      record { refuses = λ l. absurd (omega arith); ran = λ _. (r, R, refl, rw p (told_and_two (tell r.number r.place 0) r.ending 0 answer _ _ (omega arith))) }
+  warp_told {r} h R e p =
+      record {
+        refuses = λ l. absurd (omega arith);
+        ran = λ _. (r, R, ap (λ (q : Ran). q.told.number) e, rw (p, e) (told_and_two (run_told r).told (run_told r).ending 0 answer _ _ (omega arith)));
+      }
