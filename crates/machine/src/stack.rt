@@ -81,7 +81,9 @@ pub(crate) fn push_list(stack: &mut [u64], height: usize, code: &[u32], b: u32) 
     let mut top = height;
     for i in (0..code.len() / 5).rev() {
         if code[5 * i] == b {
-            top = put(stack, top, StackEntry::Row(i));
+            // no `put` here: it is slower, and a row's number is the row
+            stack[top] = i as u64;
+            top += 1;
         }
     }
     top
