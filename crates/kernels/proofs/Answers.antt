@@ -7,7 +7,7 @@ use borrow.Author.Tests.{lt-ltb, le-ltb}
 use Rattle.kernels.specs.Rows.{statements, expressions}
 use Rattle.kernels.specs.Refusals.{first_bad_statement_of, first_stray_break_of, are_bad_tables, ruling_of}
 use Rattle.std.specs.Prelude.{Ok, Err}
-use Rattle.kernels.specs.declared.kernel.Refusal.TheVariants.{Malformed, StrayBreak}
+use Rattle.kernels.specs.declared.kernel.KernelRefusal.TheVariants.{Malformed, StrayBreak}
 
 module _ (s e : List ℕ) (lanes : ℕ) where
   pub refuses_tables : are_bad_tables s e lanes ≡ true → ruling_of s e lanes ≡ Err (Malformed 0)

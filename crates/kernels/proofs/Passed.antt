@@ -12,8 +12,8 @@ use borrow.Author.Tests.{ltb-true, ltb-false, eqb-true, eqb-false, not-false, le
 use Rattle.relation.proofs.Truth.{split, isnt, neither}
 use Rattle.tables.proofs.Lowest.{lowest_miss}
 use Rattle.std.specs.Prelude.{Result, Ok, Err}
-use Rattle.kernels.specs.declared.kernel.Refusal.{Refusal}
-use Rattle.kernels.specs.declared.kernel.Refusal.TheVariants.{Malformed, StrayBreak}
+use Rattle.kernels.specs.declared.kernel.KernelRefusal.{KernelRefusal}
+use Rattle.kernels.specs.declared.kernel.KernelRefusal.TheVariants.{Malformed, StrayBreak}
 use Rattle.kernels.specs.Limits.{most_statements, most_expressions, most_lanes}
 use Rattle.kernels.specs.Rows.{statements, expressions}
 use Rattle.kernels.specs.Refusals.{is_bad_statement, first_bad_statement_of, bad_expression, has_bad_expression, is_stray_break, first_stray_break_of, is_bad_length, are_bad_tables, refusal_place, ruling_of}
@@ -35,7 +35,7 @@ pub record Passed (s e : List ℕ) (lanes : ℕ) : Type 0 where
 -- ---- the answer
 
 -- a refusal is no pass
-never : {A : Type 0} {r : Result (Unit {0}) Refusal} {f : Refusal} → r ≡ Err f → r ≡ Ok tt → A
+never : {A : Type 0} {r : Result (Unit {0}) KernelRefusal} {f : KernelRefusal} → r ≡ Err f → r ≡ Ok tt → A
 never e z = absurd (let q : ◌≡◌ {A = ℕ} 0 1 = cc in omega arith)
 
 good_length : (row most numbers : ℕ) → is_bad_length row most numbers ≡ false → (numbers % row ≡ 0) × (numbers / row ≤ most)
@@ -90,14 +90,14 @@ module _ (s e : List ℕ) (lanes : ℕ) where
       (good_length 5 most_statements (length s) ts).1
 
   -- a refusal's place is a row of the table, or 0
-  InTable : Result (Unit {0}) Refusal → Type 0
-  InTable r = (f : Refusal) → r ≡ Err f → refusal_place f ≤ most_statements
+  InTable : Result (Unit {0}) KernelRefusal → Type 0
+  InTable r = (f : KernelRefusal) → r ≡ Err f → refusal_place f ≤ most_statements
 
-  at_row : (b : Bool) (x y : Result (Unit {0}) Refusal) → (b ≡ true → InTable x) → InTable y → InTable (cond b x y)
+  at_row : (b : Bool) (x y : Result (Unit {0}) KernelRefusal) → (b ≡ true → InTable x) → InTable y → InTable (cond b x y)
   at_row true x y p q = p refl
   at_row false x y p q = q
 
-  at_place : (g : Refusal) → refusal_place g ≤ most_statements → InTable (Err g)
+  at_place : (g : KernelRefusal) → refusal_place g ≤ most_statements → InTable (Err g)
   unfolding InTable
   at_place g l f e = let q : g ≡ f = cc in rw (← q) l
 
@@ -115,7 +115,7 @@ module _ (s e : List ℕ) (lanes : ℕ) where
       (at_row (ltb (first_stray_break_of s) (statements s)) (Err (StrayBreak (first_stray_break_of s))) (Ok tt) (λ b. at_place _ (omega (arith, few_rows t, ltb-true (first_stray_break_of s) (statements s) b))) at_none)))
       (split (are_bad_tables s e lanes))
 
-  pub ruling_place : (f : Refusal) → ruling_of s e lanes ≡ Err f → refusal_place f ≤ most_statements
+  pub ruling_place : (f : KernelRefusal) → ruling_of s e lanes ≡ Err f → refusal_place f ≤ most_statements
   unfolding InTable
   ruling_place = in_table
 

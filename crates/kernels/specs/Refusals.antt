@@ -1,8 +1,8 @@
 -- Which tables are refused: 17 and then 18, in the order tested, with the place. Numbers that a kind does not use are not looked at (R66, R70, R71).
 use Rattle.std.specs.Prelude.{Bool, false, cond, not, ◌&&◌, ◌||◌, List, ℕ, zero, suc, ◌/◌, ◌%◌, eqb, leb, ltb, length, Option, Some, None, Result, Ok, Err}
 use Rattle.tables.specs.Lowest.{lowest}
-use Rattle.kernels.specs.declared.kernel.Refusal.{Refusal}
-use Rattle.kernels.specs.declared.kernel.Refusal.TheVariants.{Malformed, StrayBreak}
+use Rattle.kernels.specs.declared.kernel.KernelRefusal.{KernelRefusal}
+use Rattle.kernels.specs.declared.kernel.KernelRefusal.TheVariants.{Malformed, StrayBreak}
 use Rattle.kernels.specs.Limits.{most_statements, most_expressions, most_lanes, cell_count}
 use Rattle.kernels.specs.Rows.{statements, list_of, kind_of, x_of, y_of, z_of, assign_kind, if_kind, while_kind, break_kind, call_kind, return_kind, expressions, expr_kind, expr_x, expr_y, cell_expr, sum_expr, less_expr}
 
@@ -152,17 +152,17 @@ are_bad_tables s e lanes =
     eqb lanes 0 || ltb most_lanes lanes || is_bad_length 5 most_statements (length s) || is_bad_length 3 most_expressions (length e) || has_bad_expression e
 
 -- the number of a refusal
-abbrev pub refusal_number : Refusal → ℕ
+abbrev pub refusal_number : KernelRefusal → ℕ
 refusal_number (Malformed place) = 17
 refusal_number (StrayBreak place) = 18
 
 -- and its place
-abbrev pub refusal_place : Refusal → ℕ
+abbrev pub refusal_place : KernelRefusal → ℕ
 refusal_place (Malformed place) = place
 refusal_place (StrayBreak place) = place
 
 -- 17 at place 0; 17 at the first bad statement (R70); 18 at the first stray break (R71); or none
-unfoldable pub ruling_of : (s e : List ℕ) (lanes : ℕ) → Result (Unit {0}) Refusal
+unfoldable pub ruling_of : (s e : List ℕ) (lanes : ℕ) → Result (Unit {0}) KernelRefusal
 ruling_of s e lanes =
     cond (are_bad_tables s e lanes) (Err (Malformed 0))
     (cond (ltb (first_bad_statement_of s (expressions e)) (statements s)) (Err (Malformed (first_bad_statement_of s (expressions e))))

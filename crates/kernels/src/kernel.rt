@@ -77,19 +77,19 @@ impl ExpressionKind {
 
 // Why a kernel is refused, and at which row.
 #[derive(Clone, Copy, PartialEq, Eq)]
-pub enum Refusal {
+pub enum KernelRefusal {
     Malformed(usize),
     StrayBreak(usize),
 }
 
-impl Refusal {
+impl KernelRefusal {
     // Its number.
     pub fn number(self) -> u32
         ensures { AnswersRefusalNumber self result }
     {
         match self {
-            Refusal::Malformed(_) => 17,
-            Refusal::StrayBreak(_) => 18,
+            KernelRefusal::Malformed(_) => 17,
+            KernelRefusal::StrayBreak(_) => 18,
         }
     }
 
@@ -98,8 +98,8 @@ impl Refusal {
         ensures { AnswersRefusalPlace self result }
     {
         match self {
-            Refusal::Malformed(place) => place,
-            Refusal::StrayBreak(place) => place,
+            KernelRefusal::Malformed(place) => place,
+            KernelRefusal::StrayBreak(place) => place,
         }
     }
 }

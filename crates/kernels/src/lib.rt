@@ -8,5 +8,5 @@ mod rows; // the numbers of a row, which rows have a list, and which lie in it
 mod statements; // 17 and 18, of a statement
 mod upwards; // from a row to those that it lies in
 
-pub use kernel::{ExpressionKind, Kernel, Refusal, StatementKind};
+pub use kernel::{ExpressionKind, Kernel, KernelRefusal, StatementKind};
 pub use refusals::ruling;

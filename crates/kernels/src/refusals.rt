@@ -4,7 +4,7 @@ ghost use Rattle.kernels.specs.Refusals.{is_bad_length, are_bad_tables};
 ghost use Rattle.kernels.specs.Promise.{AnswersRuling};
 
 use crate::expressions::some_bad_expression;
-use crate::kernel::{Kernel, Refusal};
+use crate::kernel::{Kernel, KernelRefusal};
 use crate::statements::{first_bad_statement, first_stray_break};
 
 // So many numbers, in rows of so many: are the rows not whole, or too many?
@@ -30,17 +30,17 @@ fn bad_tables(s: &[u32], e: &[u32], lanes: u32) -> bool
 }
 
 // Refusal 17 or 18 of a kernel's tables, if they do not pass.
-pub fn ruling(statements: &[u32], expressions: &[u32], lanes: u32) -> Result<(), Refusal>
+pub fn ruling(statements: &[u32], expressions: &[u32], lanes: u32) -> Result<(), KernelRefusal>
     ensures { AnswersRuling statements.now expressions.now lanes result }
 {
     if bad_tables(statements, expressions, lanes) {
-        return Err(Refusal::Malformed(0));
+        return Err(KernelRefusal::Malformed(0));
     }
     if let Some(i) = first_bad_statement(statements, expressions.len() / 3) {
-        return Err(Refusal::Malformed(i));
+        return Err(KernelRefusal::Malformed(i));
     }
     if let Some(i) = first_stray_break(statements) {
-        return Err(Refusal::StrayBreak(i));
+        return Err(KernelRefusal::StrayBreak(i));
     }
     Ok(())
 }

@@ -104,15 +104,16 @@ module _ (s : List ℕ) (b n L height : ℕ) (W : List Entry) where
         let back : suc (i - 1) ≡ i = omega arith in
         P.is ∙ ap₂ (λ (k j : ℕ). pile s k j b W) shift (sym back)
 
-    pub piled_hit : (a' : List ℕ) → length a' ≡ length a → stack_in a' (d + 1) ≡ row (i - 1) ∷ stack_in a d → list_of s (i - 1) ≡ b → Piled s b n L height W a' (i - 1) (d + 1)
-    piled_hit a' l f e =
+    pub piled_hit : n ≤ 256 → height + 256 ≤ L → list_of s (i - 1) ≡ b → Piled s b n L height W (set a d (i - 1)) (i - 1) (d + 1)
+    piled_hit l m e =
         let w : i ≤ n = P.low in
         let u : d + i ≤ height + n = P.up in
+        let v : length a ≡ L = P.long in
         record {
-          long = l ∙ P.long;
+          long = length-set a d (i - 1) ∙ P.long;
           low = omega arith;
           up = omega arith;
-          is = f ∙ ap (λ (V : List Entry). row (i - 1) ∷ V) here ∙ sym (pile_one s b (n - (i - 1)) (i - 1) W (omega arith) ∙ rw (eq-eqb (list_of s (i - 1)) b e));
+          is = held_push a d (i - 1) (omega arith) ∙ ap₂ ◌∷◌ (entry_row (i - 1) (omega arith)) here ∙ sym (pile_one s b (n - (i - 1)) (i - 1) W (omega arith) ∙ rw (eq-eqb (list_of s (i - 1)) b e));
         }
 
     pub piled_miss : list_of s (i - 1) ≢ b → Piled s b n L height W a (i - 1) d

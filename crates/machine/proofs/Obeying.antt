@@ -1,10 +1,9 @@
 -- The rules of Table 2, as the code comes to them.
 use mathlib.Core.Path.{◌≡◌, refl, sym, ap, ap₂, ◌∙◌}
-use mathlib.Core.Logic.{by_cases, ◌≢◌}
-use mathlib.Core.Bool.{true, false, cond}
+use mathlib.Core.Logic.{◌≢◌}
+use mathlib.Core.Bool.{false}
 use mathlib.Core.List.{List, ◌∷◌}
-use Prim.Native.Nat.{ℕ, ◌-◌, ◌/◌, ◌%◌, ◌^◌, ◌≤◌, ◌<◌}
-use native.Mathlib.Decide.{dec_lt}
+use Prim.Native.Nat.{ℕ, ◌-◌, ◌≤◌, ◌<◌}
 use native.Mathlib.Omega.{arith}
 use borrow.Author.Tests.{eq-eqb, ne_eqb}
 use lib.Dec.{eqb}
@@ -21,11 +20,11 @@ use Rattle.kernels.proofs.Numbers.{kind_is, no_statement}
 use Rattle.machine.specs.declared.stack.StackEntry.{StackEntry}
 use Rattle.machine.specs.declared.stack.StackEntry.TheVariants.{Row, Again, Token}
 use Rattle.machine.specs.Needs.{meant}
-use Rattle.kernels.specs.Rows.{kind_of, x_of, y_of, z_of, skip_kind, assign_kind, if_kind, while_kind, break_kind, call_kind}
+use Rattle.kernels.specs.Rows.{kind_of, x_of, y_of, z_of}
 use Rattle.values.specs.Expressions.{expression, acting}
-use Rattle.machine.specs.Entries.{Entry, row, again, token, again_from, tokens_from, entry_of, stack_in, from_token, list_over}
+use Rattle.machine.specs.Entries.{Entry, again, token, entry_of, stack_in, from_token, list_over}
 use Rattle.machine.specs.Step.{Warp, act_of, parted, looping, repeating, obey, advance}
-use Rattle.machine.proofs.Held.{held_top, entry_row, entry_again, entry_token}
+use Rattle.machine.proofs.Held.{held_top}
 
 abbrev warp : List Entry → Lanes → Mem → Warp
 warp W L μ = record { stack = W; lanes = L; cells = μ }

@@ -3,7 +3,7 @@ ghost use Rattle.std.specs.Prelude.{◌≡◌};
 ghost use Rattle.machine.specs.Needs.{CanStep};
 ghost use Rattle.machine.specs.Step.{next_warp, warp_of, workable, StartsWarp, StepsWarp};
 
-use crate::rules::{enter, obey_row, repeat};
+use crate::rules::{Obeyed, enter};
 use crate::stack::{Stack, StackEntry, Stand, drop_rows};
 use kernels::Kernel;
 use lanes::{Lanes, all_of};
@@ -21,6 +21,11 @@ fn fits(code: &[u32], stack: &[u64], height: usize) -> bool
 pub fn start_warp(code: &[u32], lanes: u32, stack: &mut [u64]) -> Stand
     ensures { StartsWarp code.now lanes stack.old stack.new result }
 {
+    let none = Lanes {
+        active: 0,
+        broke: 0,
+        returned: 0,
+    };
     if fits(code, stack, 0) {
         let all = all_of(lanes);
         let top = enter(code, 0, all, stack, 0);
@@ -28,18 +33,13 @@ pub fn start_warp(code: &[u32], lanes: u32, stack: &mut [u64]) -> Stand
             height: top,
             lanes: Lanes {
                 active: all,
-                broke: 0,
-                returned: 0,
+                ..none
             },
         };
     }
     Stand {
         height: 0,
-        lanes: Lanes {
-            active: 0,
-            broke: 0,
-            returned: 0,
-        },
+        lanes: none,
     }
 }
 
@@ -69,10 +69,22 @@ fn move_on(
             }
         }
         StackEntry::Row(i) if lanes.active != 0 => {
-            obey_row(code, expressions, i, lanes, stack, under, cells)
+            let row = Obeyed {
+                code,
+                expressions,
+                i,
+                lanes,
+            };
+            row.obey(stack, under, cells)
         }
         StackEntry::Again(i) if lanes.active != 0 => {
-            repeat(code, expressions, i, lanes, stack, stand.height, cells)
+            let row = Obeyed {
+                code,
+                expressions,
+                i,
+                lanes,
+            };
+            row.repeat(stack, stand.height, cells)
         }
         _ => {
             let height = drop_rows(stack, under);

@@ -6,7 +6,6 @@ ghost use Rattle.machine.specs.Entries.{entry_of, stack_in, from_token, list_ove
 ghost use Rattle.machine.specs.Needs.{meant, Small};
 
 use lanes::Lanes;
-use values::at;
 
 #[derive(Clone, Copy)]
 pub struct Stack;
@@ -82,19 +81,12 @@ pub(crate) fn push_list(stack: &mut [u64], height: usize, code: &[u32], b: u32) 
     let mut top = height;
     for i in (0..code.len() / 5).rev() {
         if code[5 * i] == b {
-            top = put(stack, top, StackEntry::Row(i));
+            // no `put` here: it is slower, and a row's number is the row
+            stack[top] = i as u64;
+            top += 1;
         }
     }
     top
-}
-
-// The rows of the list whose number stands at a place of the table.
-pub(crate) fn push_named(stack: &mut [u64], height: usize, code: &[u32], place: usize) -> usize
-    requires { (height + 256 ≤ length stack.old) × (statements code.now ≤ most_statements) }
-    ensures { (stack_in stack.new result ≡ list_over code.now (get_or code.now place 0) (stack_in stack.old height))
-        × (result ≤ height + 256) }
-{
-    push_list(stack, height, code, at(code, place))
 }
 
 // The height without the statements above the topmost token.

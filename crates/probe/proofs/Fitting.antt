@@ -25,10 +25,14 @@ use Rattle.verdicts.proofs.FirstTold.{or_either}
 use Rattle.replay.proofs.Refusals.{unwritten_keeps}
 use Rattle.replay.proofs.Places.{Placed, placed, checked_placed, schedule_few}
 use Rattle.kernels.specs.Limits.{most_statements}
+use Rattle.kernels.specs.declared.kernel.KernelRefusal.{KernelRefusal}
 use Rattle.runs.specs.declared.Course.{Course}
-use Rattle.runs.specs.Run.{RunsKernel}
+use Rattle.runs.specs.declared.Ending.{Ending}
+use Rattle.runs.specs.declared.Ending.TheVariants.{Finished, UsedUp, WouldOverfill}
+use Rattle.std.specs.Prelude.{Result, Ok, Err}
+use Rattle.runs.specs.Run.{ending_number, RunsKernel}
 use Rattle.runs.proofs.Places.{place_few}
-use Rattle.probe.specs.Numbers.{largest}
+use Rattle.probe.specs.Numbers.{largest, run_told}
 use Rattle.probe.specs.Needs.{Counted, PairsCounted}
 use Rattle.evidence.specs.declared.door.Evidence.{Evidence}
 use Rattle.evidence.specs.Doors.{Evidenced}
@@ -100,6 +104,15 @@ rest_in (Ok s) n = omega arith
 
 -- ---- the run of a warp
 
-pub warp_place : (statements expressions : List ℕ) (lanes steps : ℕ) (cells cells' : List ℕ) (r : Course) → RunsKernel statements expressions lanes steps cells cells' r → r.place ≤ largest
+ending_small : (e : Ending) → ending_number e ≤ largest
+ending_small Finished = omega arith
+ending_small UsedUp = omega arith
+ending_small WouldOverfill = omega arith
+
+pub run_counted : (statements expressions : List ℕ) (lanes steps : ℕ) (cells cells' : List ℕ) (r : Result Course KernelRefusal) → RunsKernel statements expressions lanes steps cells cells' r
+    → Counted (run_told r).told (run_told r).ending 0
 unfolding most_statements
-warp_place statements expressions lanes steps cells cells' r R = omega (arith, place_few statements expressions lanes steps cells cells' r R)
+run_counted statements expressions lanes steps cells cells' (Ok course) R =
+    record { place = omega arith; also = omega arith; third = ending_small course.ending; fourth = omega arith }
+run_counted statements expressions lanes steps cells cells' (Err refusal) R =
+    record { place = omega (arith, place_few statements expressions lanes steps cells cells' (Err refusal) R refusal refl); also = omega arith; third = omega arith; fourth = omega arith }

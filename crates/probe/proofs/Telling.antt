@@ -4,7 +4,7 @@ use mathlib.Core.List.{List, ◌++◌}
 use Prim.Native.Nat.{ℕ, ◌-◌, ◌/◌, ◌%◌, ◌^◌, ◌≤◌, ◌<◌, min}
 use native.Mathlib.Omega.{arith}
 use lib.ListN.{length, set, take, length-drop}
-use Rattle.verdicts.specs.Verdicts.{tell, told_of, numbered}
+use Rattle.verdicts.specs.Verdicts.{told_of, numbered}
 use Rattle.verdicts.specs.declared.Told.{Told}
 use Rattle.tables.specs.Over.{over}
 use Rattle.notation.specs.Reading.{Reading, sizes, answered, rest_at, rest_of}
@@ -15,13 +15,15 @@ use Rattle.std.specs.Prelude.{Result}
 use Rattle.verdicts.specs.declared.Refusal.{Refusal}
 use Rattle.evidence.specs.declared.door.Evidence.{Evidence}
 use Rattle.evidence.specs.Doors.{Evidenced}
+use Rattle.std.specs.Prelude.{Result}
+use Rattle.kernels.specs.declared.kernel.KernelRefusal.{KernelRefusal}
 use Rattle.runs.specs.declared.Course.{Course}
+use Rattle.probe.specs.declared.ran.Ran.{Ran}
 use Rattle.runs.specs.Run.{RunsKernel}
 use Rattle.std.specs.Prelude.{Ok, Err}
-use Rattle.std.specs.Result.{result_unwrap_or}
 use Rattle.notation.specs.declared.scan.Sizes.{Sizes}
 use Rattle.notation.specs.declared.reading.Unread.TheVariants.{Unfit, Over}
-use Rattle.probe.specs.Numbers.{answer_room, largest, told_numbers, pair_numbers}
+use Rattle.probe.specs.Numbers.{answer_room, largest, told_numbers, pair_numbers, run_told}
 use Rattle.probe.specs.Promise.{ProbesReview, ProbesSchedule, ProbesRead, ProbesWarp}
 use Rattle.probe.proofs.Fitting.{rest_in}
 use Rattle.probe.proofs.Putting.{told_and_more, told_and_one, told_and_two}
@@ -90,9 +92,12 @@ module _ (statements expressions : List ℕ) (lanes steps : ℕ) (cells answer :
   pub warp_short : length answer < answer_room → ProbesWarp statements expressions lanes steps cells answer cells answer 14
   warp_short h = record { refuses = λ _. (refl, refl, refl); ran = λ l. absurd (omega arith) }
 
-  pub warp_told : {r : Course} {cells' answer' : List ℕ} → answer_room ≤ length answer → RunsKernel statements expressions lanes steps cells cells' r
-      → answer' ≡ over (told_numbers (tell r.number r.place 0) r.ending 0) answer
-      → ProbesWarp statements expressions lanes steps cells answer cells' (set (set answer' 4 (r.taken % 2 ^ 32)) 5 (r.taken / 2 ^ 32)) r.number
+  pub warp_told : {r : Result Course KernelRefusal} {q : Ran} {cells' answer' : List ℕ} → answer_room ≤ length answer → RunsKernel statements expressions lanes steps cells cells' r → q ≡ run_told r
+      → answer' ≡ over (told_numbers q.told q.ending 0) answer
+      → ProbesWarp statements expressions lanes steps cells answer cells' (set (set answer' 4 (q.taken % 2 ^ 32)) 5 (q.taken / 2 ^ 32)) q.told.number
   unfolding answer_room
-  warp_told {r} h R p =
-      record { refuses = λ l. absurd (omega arith); ran = λ _. (r, R, refl, rw p (told_and_two (tell r.number r.place 0) r.ending 0 answer _ _ (omega arith))) }
+  warp_told {r} h R e p =
+      record {
+        refuses = λ l. absurd (omega arith);
+        ran = λ _. (r, R, ap (λ (q : Ran). q.told.number) e, rw (p, e) (told_and_two (run_told r).told (run_told r).ending 0 answer _ _ (omega arith)));
+      }

@@ -22,7 +22,7 @@ use Rattle.evidence.specs.declared.door.Evidence.{Evidence}
 use Rattle.evidence.proofs.Unique.{evidence_one}
 use Rattle.runs.specs.Run.{KernelTold}
 use Rattle.runs.proofs.Unique.{kernel_one}
-use Rattle.probe.specs.Numbers.{answer_room, review_numbers, written_numbers, reading_numbers, warp_numbers}
+use Rattle.probe.specs.Numbers.{answer_room, review_numbers, written_numbers, reading_numbers, run_told, warp_numbers}
 use Rattle.probe.specs.Promise.{ProbesReview, ProbesSchedule, ProbesRead, ProbesClose, ProbesWarp}
 
 -- words of 32 bits stand in the relation rooms
@@ -85,4 +85,4 @@ probe_warp_one {statements} {expressions} {lanes} {steps} {cells} {answer} A B =
     let (r, R, p, t) = A.ran (omega arith) in
     let (r', R', p', t') = B.ran (omega arith) in
     let e = kernel_one statements expressions lanes steps cells _ _ r r' R R' in
-    (p ∙ ap (λ (z : KernelTold). z.answer.number) e ∙ sym p', ap (λ (z : KernelTold). z.cells) e, t ∙ ap (λ (z : KernelTold). over (warp_numbers z.answer) answer) e ∙ sym t'))
+    (p ∙ ap (λ (z : KernelTold). (run_told z.answer).told.number) e ∙ sym p', ap (λ (z : KernelTold). z.cells) e, t ∙ ap (λ (z : KernelTold). over (warp_numbers z.answer) answer) e ∙ sym t'))

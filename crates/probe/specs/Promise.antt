@@ -12,9 +12,10 @@ use Rattle.replay.specs.Doors.{WritesSchedule}
 use Rattle.review.specs.Agreement.{number}
 use Rattle.evidence.specs.declared.door.Evidence.{Evidence}
 use Rattle.evidence.specs.Doors.{Evidenced}
+use Rattle.kernels.specs.declared.kernel.KernelRefusal.{KernelRefusal}
 use Rattle.runs.specs.declared.Course.{Course}
 use Rattle.runs.specs.Run.{RunsKernel}
-use Rattle.probe.specs.Numbers.{answer_room, review_numbers, written_numbers, reading_numbers, warp_numbers}
+use Rattle.probe.specs.Numbers.{answer_room, review_numbers, written_numbers, reading_numbers, run_told, warp_numbers}
 
 -- The contract of `probe_review` (R84).
 pub record ProbesReview (commands lengths schedule relation generations evidence answer relation' generations' evidence' answer' : List ℕ) (n : ℕ) : Type 0 where
@@ -44,4 +45,4 @@ pub record ProbesClose (relation : List ℕ) (m : ℕ) (relation' : List ℕ) (n
 -- The contract of `probe_warp`: what `run_kernel` answers, of which its own promise leaves no choice (R84).
 pub record ProbesWarp (statements expressions : List ℕ) (lanes steps : ℕ) (cells answer cells' answer' : List ℕ) (n : ℕ) : Type 0 where
   pub refuses : length answer < answer_room → (n ≡ 14) × (cells' ≡ cells) × (answer' ≡ answer)
-  pub ran : answer_room ≤ length answer → (r : Course) × RunsKernel statements expressions lanes steps cells cells' r × (n ≡ r.number) × (answer' ≡ over (warp_numbers r) answer)
+  pub ran : answer_room ≤ length answer → (r : Result Course KernelRefusal) × RunsKernel statements expressions lanes steps cells cells' r × (n ≡ (run_told r).told.number) × (answer' ≡ over (warp_numbers r) answer)

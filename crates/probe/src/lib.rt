@@ -5,15 +5,17 @@
 ghost use Rattle.probe.specs.Promise.{ProbesReview, ProbesSchedule, ProbesRead, ProbesClose, ProbesWarp};
 
 use crate::answer::{Answer, capped, put_sheet, put_told};
+use crate::ran::ran_of;
 use closing::close;
 use evidence::review_evidence;
 use notation::{Sizes, read, rest, told};
 use replay::write_schedule;
 use runs::run_kernel;
 use tables::Tables;
-use verdicts::{Told, Verdict};
+use verdicts::Verdict;
 
 mod answer; // numbers into the answer room
+mod ran; // what a warp's run is told by
 
 // The verdict's number. `answer` gets its two places, the total, how many numbers of evidence were written, and both numbers of each of the sheet's sixteen pairs.
 #[unsafe(no_mangle)]
@@ -128,18 +130,9 @@ pub extern "C" fn probe_warp(
     if answer.len() < Answer::NUMBERS {
         return 14;
     }
-    let ran = run_kernel(statements, expressions, lanes, cells, steps);
-    put_told(
-        answer,
-        Told {
-            number: ran.number,
-            place: ran.place,
-            also: 0,
-        },
-        ran.ending as usize,
-        0,
-    );
+    let ran = ran_of(run_kernel(statements, expressions, lanes, cells, steps));
+    put_told(answer, ran.told, ran.ending, 0);
     answer[4] = (ran.taken % 4294967296) as u32;
     answer[5] = (ran.taken / 4294967296) as u32;
-    ran.number
+    ran.told.number
 }

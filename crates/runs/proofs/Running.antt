@@ -14,7 +14,8 @@ use Rattle.warps.specs.Language.{Mem}
 use Rattle.lanes.specs.declared.Lanes.{Lanes}
 use Rattle.kernels.specs.Limits.{most_statements, cell_count}
 use Rattle.kernels.specs.Refusals.{ruling_of}
-use Rattle.kernels.specs.declared.kernel.Ruling.{Ruling}
+use Rattle.kernels.specs.declared.kernel.KernelRefusal.{KernelRefusal}
+use Rattle.kernels.specs.declared.kernel.KernelRefusal.TheVariants.{Malformed}
 use Rattle.kernels.proofs.Passed.{passed}
 use Rattle.kernels.specs.Rows.{statements, kind_of, skip_kind, assign_kind, if_kind, while_kind, break_kind, call_kind}
 use Rattle.machine.specs.declared.stack.Stand.{Stand}
@@ -22,8 +23,10 @@ use Rattle.machine.specs.Entries.{most_entries, stack_room, Entry, row, again, t
 use Rattle.machine.specs.Step.{Warp, obey, advance, next_warp, warp_of, StartsWarp, StepsWarp}
 use Rattle.machine.proofs.Held.{held_long}
 use Rattle.machine.proofs.Doors.{works}
-use Rattle.runs.specs.declared.Course.{Course}
-use Rattle.runs.specs.Run.{finished, used_up, would_overfill, is_over, overfills, run_warp, kernel_run, KernelTold, tell_refusal, tell_run, kernel_told}
+use Rattle.runs.specs.declared.Ending.{Ending}
+use Rattle.runs.specs.declared.Ending.TheVariants.{Finished, UsedUp, WouldOverfill}
+use Rattle.std.specs.Prelude.{Ok, Err}
+use Rattle.runs.specs.Run.{is_over, overfills, run_warp, kernel_run, KernelTold, tell_refusal, tell_run, kernel_told}
 
 -- ---- a step that makes the stack higher writes no cell
 module _ (s e : List ℕ) where
@@ -50,10 +53,6 @@ module _ (s e : List ℕ) where
       by_cases (ℕ_discrete L.active 0) (λ (z : L.active ≡ 0). rw (eq-eqb L.active 0 z))
       (λ (z : L.active ≢ 0). rw (ne_eqb L.active 0 z) (obey_cells i W L μ (let l : suc (length W) < length (obey s e i W L μ).stack = rw (ne_eqb L.active 0 z) at h in omega arith)))
 
--- what is told by `ended`
-pub told_by : {X : KernelTold} {ν : Mem} {a b : Course} → a ≡ b → ◌≡◌ {A = KernelTold} (record { answer = b; cells = ν }) X → ◌≡◌ {A = KernelTold} (record { answer = a; cells = ν }) X
-told_by {ν = ν} p q = ap (λ (a : Course). record { answer = a; cells = ν }) p ∙ q
-
 -- ---- the loop's invariant: X is what the whole run tells
 pub record Going (s e : List ℕ) (X : KernelTold) (K steps : ℕ) (a : List ℕ) (st : Stand) (μ : Mem) (j : ℕ) : Type 0 where
   pub long : length a ≡ stack_room
@@ -62,33 +61,33 @@ pub record Going (s e : List ℕ) (X : KernelTold) (K steps : ℕ) (a : List ℕ
   pub is : X ≡ tell_run (run_warp s e (steps - j) j (warp_of a st μ))
 
 module _ (s e : List ℕ) (X : KernelTold) (K steps : ℕ) (a : List ℕ) (st : Stand) (μ : Mem) (j : ℕ) (G : Going s e X K steps a st μ j) where
-  abbrev tell : (ending : ℕ) → Mem → KernelTold
-  tell ending ν = record { answer = record { number = 0; place = 0; ending = ending; taken = j }; cells = ν }
+  abbrev tell : Ending → Mem → KernelTold
+  tell ending ν = record { answer = Ok (record { ending = ending; taken = j }); cells = ν }
 
-  pub run_done : st.height ≤ 0 → tell finished μ ≡ X
+  pub run_done : st.height ≤ 0 → tell Finished μ ≡ X
   unfolding run_warp
   run_done h = sym (G.is ∙ ap tell_run (go (steps - j)))
     where
       empty : is_over (warp_of a st μ) ≡ true
       empty = eq-eqb _ 0 (held_long a st.height ∙ omega arith)
 
-      go : (k : ℕ) → run_warp s e k j (warp_of a st μ) ≡ record { ending = finished; taken = j; last = warp_of a st μ }
+      go : (k : ℕ) → run_warp s e k j (warp_of a st μ) ≡ record { ending = Finished; taken = j; last = warp_of a st μ }
       go zero = rw empty
       go (suc k) = rw empty
 
   some_left : 0 < st.height → is_over (warp_of a st μ) ≡ false
   some_left h = let l : length (stack_in a st.height) ≡ st.height = held_long a st.height in ne_eqb (length (stack_in a st.height)) 0 (λ (q : length (stack_in a st.height) ≡ 0). omega arith)
 
-  pub run_spent : 0 < st.height → j ≡ steps → tell used_up μ ≡ X
+  pub run_spent : 0 < st.height → j ≡ steps → tell UsedUp μ ≡ X
   unfolding run_warp
   run_spent h q = let z : steps - j ≡ 0 = omega arith in sym (G.is ∙ rw (z, some_left h))
 
   one : 0 < st.height → j ≢ steps
-      → X ≡ tell_run (cond (overfills s e (warp_of a st μ)) (record { ending = would_overfill; taken = j; last = warp_of a st μ }) (run_warp s e (steps - suc j) (suc j) (next_warp s e (warp_of a st μ))))
+      → X ≡ tell_run (cond (overfills s e (warp_of a st μ)) (record { ending = WouldOverfill; taken = j; last = warp_of a st μ }) (run_warp s e (steps - suc j) (suc j) (next_warp s e (warp_of a st μ))))
   unfolding run_warp
   one h q = let z : steps - j ≡ suc (steps - suc j) = omega (arith, G.soon) in G.is ∙ rw (z, some_left h)
 
-  pub run_high : 0 < st.height → j ≢ steps → most_entries < st.height → tell would_overfill μ ≡ X
+  pub run_high : 0 < st.height → j ≢ steps → most_entries < st.height → tell WouldOverfill μ ≡ X
   unfolding overfills
   run_high h q l = let z : length (stack_in a st.height) ≡ st.height = held_long a st.height in sym (one h q ∙ rw (lt-ltb most_entries (length (stack_in a st.height)) (omega arith)))
 
@@ -99,13 +98,13 @@ module _ (s e : List ℕ) (X : KernelTold) (K steps : ℕ) (a : List ℕ) (st : 
     tall : length (next_warp s e (warp_of a st μ)).stack ≡ st'.height
     tall = sym (ap (λ (w : Warp). length w.stack) here) ∙ held_long a' st'.height
 
-    pub run_full : most_entries < st'.height → tell would_overfill μ' ≡ X
+    pub run_full : most_entries < st'.height → tell WouldOverfill μ' ≡ X
     unfolding overfills
     run_full k =
         let z : length (stack_in a st.height) ≡ st.height = held_long a st.height in
         let t : length (next_warp s e (warp_of a st μ)).stack ≡ st'.height = tall in
         let c : μ' ≡ μ = ap (λ (w : Warp). w.cells) here ∙ higher_cells s e (stack_in a st.height) st.lanes μ (omega arith) in
-        ap (tell would_overfill) c
+        ap (tell WouldOverfill) c
         ∙ sym (one h q ∙ rw (le-ltb most_entries (length (stack_in a st.height)) (omega arith), lt-ltb most_entries (length (next_warp s e (warp_of a st μ)).stack) (omega arith)))
 
     pub run_on : st'.height ≤ most_entries → length a' ≡ length a → length μ' ≡ length μ → Going s e X K steps a' st' μ' (j + 1)
@@ -134,20 +133,18 @@ going_start s e lanes steps μ a₀ a st few l k S =
 
 -- ---- the door
 module _ (s e : List ℕ) (lanes steps : ℕ) (μ : Mem) where
-  pub door_small : length μ < 64 → tell_refusal 17 0 μ ≡ kernel_told s e lanes steps μ
+  pub door_small : length μ < 64 → tell_refusal (Malformed 0) μ ≡ kernel_told s e lanes steps μ
   unfolding kernel_told cell_count
   door_small h = rw (lt-ltb (length μ) 64 h)
 
-  module _ (f : Ruling) (h : 64 ≤ length μ) (q : f ≡ ruling_of s e lanes) where
-    pub door_refused : f.number ≢ 0 → tell_refusal f.number f.place μ ≡ kernel_told s e lanes steps μ
+  module _ (h : 64 ≤ length μ) where
+    pub door_refused : (f : KernelRefusal) → Err f ≡ ruling_of s e lanes → tell_refusal f μ ≡ kernel_told s e lanes steps μ
     unfolding kernel_told cell_count
-    door_refused n =
-        ap (λ (f : Ruling). tell_refusal f.number f.place μ) q
-        ∙ sym (rw (le-ltb (length μ) 64 h, ne_eqb (ruling_of s e lanes).number 0 (λ z. n (ap (λ (f : Ruling). f.number) q ∙ z))))
+    door_refused f q = sym (rw (le-ltb (length μ) 64 h, ← q))
 
-    pub door_run : (t : KernelTold) → f.number ≡ 0 → t ≡ tell_run (kernel_run s e lanes steps μ) → t ≡ kernel_told s e lanes steps μ
+    pub door_run : (t : KernelTold) → Ok tt ≡ ruling_of s e lanes → t ≡ tell_run (kernel_run s e lanes steps μ) → t ≡ kernel_told s e lanes steps μ
     unfolding kernel_told cell_count
-    door_run t z r = r ∙ sym (rw (le-ltb (length μ) 64 h, eq-eqb (ruling_of s e lanes).number 0 (ap (λ (f : Ruling). f.number) (sym q) ∙ z)))
+    door_run t q r = r ∙ sym (rw (le-ltb (length μ) 64 h, ← q))
 
-pub door_few : (s e : List ℕ) (lanes : ℕ) (f : Ruling) → f ≡ ruling_of s e lanes → f.number ≡ 0 → statements s ≤ most_statements
-door_few s e lanes f q z = (passed s e lanes (ap (λ (f : Ruling). f.number) (sym q) ∙ z)).few_statements
+pub door_few : (s e : List ℕ) (lanes : ℕ) → Ok tt ≡ ruling_of s e lanes → statements s ≤ most_statements
+door_few s e lanes q = (passed s e lanes (sym q)).few_statements

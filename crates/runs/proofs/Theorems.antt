@@ -19,7 +19,9 @@ use Rattle.kernels.specs.Limits.{most_lanes}
 use Rattle.kernels.proofs.Passed.{passed}
 use Rattle.machine.specs.Entries.{most_entries, Entry}
 use Rattle.machine.specs.Step.{Warp, next_warp, start_of}
-use Rattle.runs.specs.Run.{finished, used_up, would_overfill, is_over, overfills, run_warp, kernel_run}
+use Rattle.runs.specs.declared.Ending.{Ending}
+use Rattle.runs.specs.declared.Ending.TheVariants.{Finished, UsedUp, WouldOverfill}
+use Rattle.runs.specs.Run.{is_over, overfills, run_warp, kernel_run}
 use Rattle.runs.specs.Denotes.{list_in_loop, bodies_of, items, config_of}
 use Rattle.runs.specs.Claims.{ReachedWarp, begun, onward, Admitted, AreProgs, StartsAlike, StepsByTable2, StepsMatched, RunsMatched, FinishedAll, StaysSmall}
 use Rattle.runs.proofs.Progs.{progs}
@@ -96,14 +98,14 @@ module _ (s e : List ℕ) (lanes : ℕ) where
       (λ n. absurd (n refl))).0
 
   -- ---- where a run ends that has finished
-  run_over : (k j : ℕ) (w : Warp) → (run_warp s e k j w).ending ≡ finished → is_over (run_warp s e k j w).last ≡ true
+  run_over : (k j : ℕ) (w : Warp) → (run_warp s e k j w).ending ≡ Finished → is_over (run_warp s e k j w).last ≡ true
   unfolding run_warp
   run_over zero j w h =
-      ⊎_elim (λ (o : is_over w ≡ true). o) (λ (o : is_over w ≡ false). absurd (let z : ◌≡◌ {A = ℕ} used_up finished = rw o at h in omega arith)) (split (is_over w))
+      ⊎_elim (λ (o : is_over w ≡ true). o) (λ (o : is_over w ≡ false). absurd (let z : ◌≡◌ {A = Ending} UsedUp Finished = rw o at h in let y : ◌≡◌ {A = ℕ} 0 1 = cc in omega arith)) (split (is_over w))
   run_over (suc k) j w h =
       ⊎_elim (λ (o : is_over w ≡ true). rw o o)
       (λ (o : is_over w ≡ false).
-      ⊎_elim (λ (f : overfills s e w ≡ true). absurd (let z : ◌≡◌ {A = ℕ} would_overfill finished = rw (o, f) at h in omega arith))
+      ⊎_elim (λ (f : overfills s e w ≡ true). absurd (let z : ◌≡◌ {A = Ending} WouldOverfill Finished = rw (o, f) at h in let y : ◌≡◌ {A = ℕ} 0 1 = cc in omega arith))
       (λ (f : overfills s e w ≡ false). rw (o, f) (run_over k (suc j) (next_warp s e w) (rw (o, f) at h))) (split (overfills s e w))) (split (is_over w))
 
   none_left : (W : List Entry) → length W ≡ 0 → items s e W ≡ []

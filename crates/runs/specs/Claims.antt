@@ -1,5 +1,5 @@
 -- What is proved of runs, each as a named type. Theorems (proofs) has one proof for each.
-use Rattle.std.specs.Prelude.{◌≡◌, ◌≢◌, List, [], ℕ, ◌≤◌, length}
+use Rattle.std.specs.Prelude.{◌≡◌, ◌≢◌, List, [], ℕ, ◌≤◌, length, Ok}
 use Rattle.warps.specs.Language.{Mem}
 use Rattle.warps.specs.Warp.{Transition, initial}
 use Rattle.warps.specs.Threads.{Interleaved}
@@ -8,7 +8,8 @@ use Rattle.warps.specs.Programs.{Prog}
 use Rattle.kernels.specs.Refusals.{ruling_of}
 use Rattle.machine.specs.Entries.{most_entries}
 use Rattle.machine.specs.Step.{Warp, next_warp, start_of}
-use Rattle.runs.specs.Run.{finished, RunEnd, kernel_run}
+use Rattle.runs.specs.declared.Ending.TheVariants.{Finished}
+use Rattle.runs.specs.Run.{RunEnd, kernel_run}
 use Rattle.runs.specs.Denotes.{list_in_loop, bodies_of, config_of}
 
 -- a warp that a start reaches by steps (R73)
@@ -19,7 +20,7 @@ pub data ReachedWarp (s e : List ℕ) (lanes : ℕ) (μ : Mem) : Warp → Type 0
 module _ (s e : List ℕ) (lanes : ℕ) where
   -- neither 17 nor 18
   abbrev pub Admitted : Type 0
-  Admitted = (ruling_of s e lanes).number ≡ 0
+  Admitted = ruling_of s e lanes ≡ Ok tt
 
   -- what 17 and 18 let through is what the theory asks for: lists of statements that have a break only within the loops of their own function (R71)
   abbrev pub AreProgs : Type 0
@@ -48,7 +49,7 @@ module _ (s e : List ℕ) (lanes : ℕ) where
 
   -- a run that finished holds nothing more for any lane; so, of an admitted kernel, the threads of `RunsMatched` have come to their ends
   abbrev pub FinishedAll : Type 0
-  FinishedAll = (steps : ℕ) (μ : Mem) → (kernel_run s e lanes steps μ).ending ≡ finished → (t : ℕ) → stacks_of lanes (config_of s e (kernel_run s e lanes steps μ).last) t ≡ []
+  FinishedAll = (steps : ℕ) (μ : Mem) → (kernel_run s e lanes steps μ).ending ≡ Finished → (t : ℕ) → stacks_of lanes (config_of s e (kernel_run s e lanes steps μ).last) t ≡ []
 
   -- the stack keeps its limit: what runs has at most 256 entries after every step (R72)
   abbrev pub StaysSmall : Type 0

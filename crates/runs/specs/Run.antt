@@ -1,25 +1,25 @@
 -- A run of at most so many steps from the start of a kernel, and what the door answers (R70 to R72).
-use Rattle.std.specs.Prelude.{◌≡◌, Bool, cond, ◌||◌, List, ℕ, zero, suc, eqb, ltb, length}
+use Rattle.std.specs.Prelude.{◌≡◌, Bool, cond, ◌||◌, List, ℕ, zero, suc, eqb, ltb, length, Result, Ok, Err}
 use Rattle.warps.specs.Language.{Mem}
 use Rattle.kernels.specs.Limits.{cell_count}
+use Rattle.kernels.specs.declared.kernel.KernelRefusal.{KernelRefusal}
+use Rattle.kernels.specs.declared.kernel.KernelRefusal.TheVariants.{Malformed}
 use Rattle.kernels.specs.Refusals.{ruling_of}
 use Rattle.machine.specs.Entries.{most_entries}
 use Rattle.machine.specs.Step.{Warp, next_warp, start_of}
+use Rattle.runs.specs.declared.Ending.{Ending}
+use Rattle.runs.specs.declared.Ending.TheVariants.{Finished, UsedUp, WouldOverfill}
 use Rattle.runs.specs.declared.Course.{Course}
 
--- how a run ends (R72)
-abbrev pub finished : ℕ
-finished = 1
-
-abbrev pub used_up : ℕ
-used_up = 2
-
-abbrev pub would_overfill : ℕ
-would_overfill = 3
+-- the number of an ending (R72)
+abbrev pub ending_number : Ending → ℕ
+ending_number Finished = 1
+ending_number UsedUp = 2
+ending_number WouldOverfill = 3
 
 -- how it ended, after how many steps, and where
 pub record RunEnd : Type 0 where
-  pub ending : ℕ
+  pub ending : Ending
   pub taken : ℕ
   pub last : Warp
 
@@ -34,10 +34,10 @@ module _ (s e : List ℕ) where
 
   -- with `left` steps left and `taken` taken: finished, used up, would overfill, tested in this order; else a step (R72)
   unfoldable pub run_warp : (left taken : ℕ) → Warp → RunEnd
-  run_warp zero taken w = record { ending = cond (is_over w) finished used_up; taken = taken; last = w }
+  run_warp zero taken w = record { ending = cond (is_over w) Finished UsedUp; taken = taken; last = w }
   run_warp (suc left) taken w =
-      cond (is_over w) (record { ending = finished; taken = taken; last = w })
-      (cond (overfills w) (record { ending = would_overfill; taken = taken; last = w })
+      cond (is_over w) (record { ending = Finished; taken = taken; last = w })
+      (cond (overfills w) (record { ending = WouldOverfill; taken = taken; last = w })
       (run_warp left (suc taken) (next_warp s e w)))
 
   -- at most so many steps from the start (R72)
@@ -48,23 +48,26 @@ module _ (s e : List ℕ) where
 
 -- what is told, and the cells
 pub record KernelTold : Type 0 where
-  pub answer : Course
+  pub answer : Result Course KernelRefusal
   pub cells : Mem
 
 -- a refused kernel: no step, and the cells as they were (R71, R72)
-abbrev pub tell_refusal : (number place : ℕ) → Mem → KernelTold
-tell_refusal number place μ = record { answer = record { number = number; place = place; ending = 0; taken = 0 }; cells = μ }
+abbrev pub tell_refusal : KernelRefusal → Mem → KernelTold
+tell_refusal refusal μ = record { answer = Err refusal; cells = μ }
 
 abbrev pub tell_run : RunEnd → KernelTold
-tell_run o = record { answer = record { number = 0; place = 0; ending = o.ending; taken = o.taken }; cells = o.last.cells }
+tell_run o = record { answer = Ok (record { ending = o.ending; taken = o.taken }); cells = o.last.cells }
+
+-- by what the tables' refusals are
+abbrev pub tell_ruled : Result (Unit {0}) KernelRefusal → RunEnd → Mem → KernelTold
+tell_ruled (Err refusal) o μ = tell_refusal refusal μ
+tell_ruled (Ok passed) o μ = tell_run o
 
 -- fewer than 64 cells are 17 at place 0; then the tables' refusals, with the cells as they were (R70, R71); then the run (R72)
 unfoldable pub kernel_told : (s e : List ℕ) (lanes steps : ℕ) → Mem → KernelTold
 kernel_told s e lanes steps μ =
-    cond (ltb (length μ) cell_count) (tell_refusal 17 0 μ)
-    (cond (eqb (ruling_of s e lanes).number 0) (tell_run (kernel_run s e lanes steps μ))
-    (tell_refusal (ruling_of s e lanes).number (ruling_of s e lanes).place μ))
+    cond (ltb (length μ) cell_count) (tell_refusal (Malformed 0) μ) (tell_ruled (ruling_of s e lanes) (kernel_run s e lanes steps μ) μ)
 
 -- what `run_kernel` promises (R70 to R72)
-abbrev pub RunsKernel : (s e : List ℕ) (lanes steps : ℕ) (μ μ' : Mem) → Course → Type 0
+abbrev pub RunsKernel : (s e : List ℕ) (lanes steps : ℕ) (μ μ' : Mem) → Result Course KernelRefusal → Type 0
 RunsKernel s e lanes steps μ μ' answer = ◌≡◌ {A = KernelTold} (record { answer = answer; cells = μ' }) (kernel_told s e lanes steps μ)

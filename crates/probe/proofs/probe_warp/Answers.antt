@@ -2,7 +2,7 @@
 use native.Mathlib.Omega.{arith}
 use lib.ListN.{length-set}
 use Rattle.probe.specs.Numbers.{answer_room}
-use Rattle.probe.proofs.Fitting.{warp_place}
+use Rattle.probe.proofs.Fitting.{run_counted}
 use Rattle.probe.proofs.Telling.{warp_short, warp_told}
 use borrow.Author.Rules.{rules}
 use Rattle.probe.proofs.probe_warp.Goals as goal
@@ -13,7 +13,7 @@ returns-then-answer-lt-NUMBERS c = warp_short _ _ _ _ _ _ (omega (arith, c.if-an
 
 pub put_told-requires : goal.put_told-requires
 put_told-requires c =
-    (omega (arith, c.if-answer-lt-NUMBERS.false), record { place = omega (arith, warp_place _ _ _ _ _ _ _ c.run_kernel-ran.ensures); also = omega arith; third = omega arith; fourth = omega arith })
+    (omega (arith, c.if-answer-lt-NUMBERS.false), rw c.ran_of-ran.ensures (run_counted _ _ _ _ _ _ _ c.run_kernel.ensures))
 
 pub bounds-answer-5 : goal.bounds-answer-5
 bounds-answer-5 c = simp length-set (search rules)
@@ -21,4 +21,4 @@ bounds-answer-5 c = simp length-set (search rules)
 pub returns : goal.returns
 unfolding answer_room
 returns c =
-    warp_told _ _ _ _ _ _ (omega (arith, c.if-answer-lt-NUMBERS.false)) c.run_kernel-ran.ensures c.put_told.ensures
+    warp_told _ _ _ _ _ _ (omega (arith, c.if-answer-lt-NUMBERS.false)) c.run_kernel.ensures c.ran_of-ran.ensures c.put_told.ensures

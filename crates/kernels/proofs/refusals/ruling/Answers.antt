@@ -2,7 +2,7 @@
 use mathlib.Core.Path.{sym, ap, ◌∙◌}
 use native.Mathlib.Omega.{arith}
 use Rattle.std.specs.Prelude.{Err}
-use Rattle.kernels.specs.declared.kernel.Refusal.TheVariants.{Malformed, StrayBreak}
+use Rattle.kernels.specs.declared.kernel.KernelRefusal.TheVariants.{Malformed, StrayBreak}
 use Rattle.kernels.proofs.Finds.{found_at, found_past}
 use Rattle.kernels.proofs.Answers.{refuses_tables, refuses_statement, refuses_break, refuses_none}
 use Rattle.kernels.proofs.refusals.ruling.Goals as goal

@@ -1,7 +1,6 @@
 -- `move_on` meets its contract, by the topmost entry. Assumes nothing.
-use mathlib.Core.Path.{◌≡◌, sym, ◌∙◌}
+use mathlib.Core.Path.{◌≡◌}
 use Prim.Native.Nat.{ℕ}
-use native.Mathlib.Omega.{arith}
 use Rattle.machine.specs.declared.stack.StackEntry.{StackEntry}
 use Rattle.machine.specs.declared.stack.StackEntry.TheVariants.{Row, Again, Token}
 use Rattle.machine.proofs.Obeying.{step_none, step_token, step_inact, step_row, step_again}
@@ -23,7 +22,7 @@ returns-in-Token c =
 
 pub returns-in-Row : goal.returns-in-Row
 returns-in-Row c =
-    step_row _ _ _ _ _ _ c.if-stand-eq0.false _ c.of.ensures.0 _ _ c.in-Row.is c.if-lanes-ne0.true c.obey_row.ensures
+    step_row _ _ _ _ _ _ c.if-stand-eq0.false _ c.of.ensures.0 _ _ c.in-Row.is c.if-lanes-ne0.true c.obey.ensures
 
 pub returns-in-Again : goal.returns-in-Again
 returns-in-Again c =
@@ -32,8 +31,8 @@ returns-in-Again c =
 pub returns-in_default : goal.returns-in_default
 returns-in_default c =
     elim c.in_default.branch [
-      in_default-via-in-Row+else-lanes-ne0 w ↦
-        step_inact _ _ _ _ _ _ c.if-stand-eq0.false _ c.of.ensures.0 _ (no_token w.in-Row.is) w.if-lanes-ne0.false c.drop_rows-height.ensures.0
-    | in_default-via-in-Again+else-lanes-ne0-2 w ↦
-        step_inact _ _ _ _ _ _ c.if-stand-eq0.false _ c.of.ensures.0 _ (nor_again w.in-Again.is) w.if-lanes-ne0-2.false c.drop_rows-height.ensures.0
+      | in_default-via-in-Row+else-lanes-ne0 w ↦
+          step_inact _ _ _ _ _ _ c.if-stand-eq0.false _ c.of.ensures.0 _ (no_token w.in-Row.is) w.if-lanes-ne0.false c.drop_rows-height.ensures.0
+      | in_default-via-in-Again+else-lanes-ne0-2 w ↦
+          step_inact _ _ _ _ _ _ c.if-stand-eq0.false _ c.of.ensures.0 _ (nor_again w.in-Again.is) w.if-lanes-ne0-2.false c.drop_rows-height.ensures.0
     ]

@@ -1,5 +1,6 @@
 use mathlib.Core.Path.{refl}
 use native.Mathlib.Omega.{arith}
+use borrow.Author.Rules.{rules}
 use Rattle.kernels.specs.Limits.{most_statements}
 use Rattle.machine.proofs.Held.{piled_start, piled_hit, piled_miss, piled_end}
 use Rattle.machine.proofs.stack.push_list.Goals as goal
@@ -7,14 +8,17 @@ use Rattle.machine.proofs.stack.push_list.Goals as goal
 pub loop-i-init : goal.loop-i-init
 loop-i-init c = piled_start _ _ _ _ _ _ _ refl refl
 
-pub put-top-requires : goal.put-top-requires
+pub bounds-stack-top : goal.bounds-stack-top
 unfolding most_statements
-put-top-requires c = (omega arith, omega arith)
+bounds-stack-top c = search rules
+
+pub overflow_add-top : goal.overflow_add-top
+unfolding most_statements
+overflow_add-top c = search rules
 
 pub loop-i-preserved-then-code-i : goal.loop-i-preserved-then-code-i
-loop-i-preserved-then-code-i c =
-    let (f, q) = c.put-top.ensures in
-    rw q (piled_hit _ _ _ _ _ _ _ _ _ c.loop-i.invariant c.loop-i-test.true _ c.put-top.auto.stack (rw q at f) c.if-code-i.true)
+unfolding most_statements
+loop-i-preserved-then-code-i c = piled_hit _ _ _ _ _ _ _ _ _ c.loop-i.invariant c.loop-i-test.true (omega arith) (omega arith) c.if-code-i.true
 
 pub loop-i-preserved : goal.loop-i-preserved
 loop-i-preserved c = piled_miss _ _ _ _ _ _ _ _ _ c.loop-i.invariant c.loop-i-test.true c.if-code-i.false

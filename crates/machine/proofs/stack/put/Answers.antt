@@ -1,5 +1,5 @@
 -- `put` meets its contract: one entry more. Assumes nothing.
-use mathlib.Core.Path.{◌≡◌, refl, ap, ◌∙◌}
+use mathlib.Core.Path.{refl, ap, ◌∙◌}
 use mathlib.Core.List.{◌∷◌}
 use native.Mathlib.Omega.{arith}
 use Rattle.machine.specs.Entries.{Entry, stack_in}

@@ -1,7 +1,6 @@
 -- `number` meets its contract, by the entry. Assumes nothing.
 use mathlib.Core.Path.{sym, ap, ◌∙◌}
-use native.Mathlib.Omega.{arith}
-use Rattle.machine.specs.Needs.{meant, Small}
+use Rattle.machine.specs.Needs.{meant}
 use Rattle.machine.proofs.Held.{entry_row, again_number, token_number}
 use Rattle.machine.proofs.stack.StackEntry.number.Goals as goal
 
