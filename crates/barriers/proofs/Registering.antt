@@ -1,8 +1,8 @@
 -- Counters, and what a registration meets, from the tests. Assumes nothing.
 use mathlib.Core.Path.{◌≡◌}
 use mathlib.Core.Logic.{◌≢◌}
-use Prim.Native.Nat.{ℕ, ◌+◌, ◌<◌}
-use borrow.Author.Tests.{eq-eqb, ne_eqb, lt-ltb}
+use Prim.Native.Nat.{ℕ, ◌+◌, ◌≤◌, ◌<◌}
+use borrow.Author.Tests.{eq-eqb, ne_eqb, lt-ltb, le-ltb}
 use Rattle.barriers.specs.declared.barrier.Phase.TheVariants.{Unset, Expecting}
 use Rattle.barriers.specs.declared.barrier.Barrier.{Barrier}
 use Rattle.barriers.specs.declared.barrier.Met.TheVariants.{Clash}
@@ -15,6 +15,10 @@ use Rattle.barriers.specs.Barrier.{one_more_of, registration}
 pub counted_more : (n : ℕ) → n < top → counted n ≡ n + 1
 unfolding counted
 counted_more n l = rw (lt-ltb n top l)
+
+pub counted_top : (n : ℕ) → top ≤ n → n ≡ counted n
+unfolding counted
+counted_top n l = rw (le-ltb n top l)
 
 -- ---- a barrier
 

@@ -1,4 +1,4 @@
-// A barrier: either unset, or expecting a count with what has registered so far.
+// A barrier: either unset, or expecting a count with what has registered so far. Its phase is an enum that is held in it and matched as a copy, as document 01 has it.
 ghost use Rattle.std.specs.Prelude.{◌≡◌};
 ghost use Rattle.barriers.specs.Barrier.{one_more_of};
 ghost use Rattle.barriers.specs.Promise.{AnswersRegister, AnswersIsSet};

@@ -50,9 +50,6 @@ module _ (commands lengths : List ℕ) where
     pub goes_ended : r.verdict ≢ verdict.Clean → r ≡ go_on commands lengths σ r
     goes_ended n = sym (stays_ended r (λ z. n (zero_clean r.verdict z)) σ)
 
-    pub goes_open : r.verdict ≡ verdict.Clean → go_on commands lengths σ (standing r.state r.generations r.steps verdict.Clean) ≡ go_on commands lengths σ r
-    goes_open z = rw z
-
 -- ---- the loop over entries
 
 -- It has come to entry i, at this point.

@@ -15,7 +15,7 @@ use Rattle.relation.proofs.Truth.{split}
 use Rattle.tables.specs.Limits.{most_threads}
 use Rattle.tables.specs.Rows.{first_row}
 use Rattle.tables.proofs.Rows.{first_none, first_next}
-use Rattle.turns.specs.Turns.{let_go_of, released, settled}
+use Rattle.turns.specs.Turns.{let_go_of, released}
 use Rattle.steps.specs.declared.change.Change.{Change}
 use Rattle.steps.specs.declared.row.Row.{Row}
 use Rattle.steps.specs.declared.state.Replay.{Replay}
@@ -76,11 +76,6 @@ pub found : (commands lengths : List ℕ) (s : Replay) (t first n wait : ℕ) (r
     → wait ≡ waiting s t → row ≡ row_of_thread commands lengths t first n wait → made ≡ changed row (barrier_at s row.barrier) → Found commands lengths s t row made
 found commands lengths s t first n wait row made begins ne we re me =
     record { row_is = row_is commands lengths s t begins ne we re me; change_is = change_is commands lengths s t begins ne we re me }
-
--- the change is stored
-pub stored : (s : Replay) (t b : ℕ) (d : Change) {n : ℕ} {waits : List ℕ} → n ≡ ran_so_far s t → waits ≡ settled t d.wait d.frees s.waits
-    → record { next = set s.next t (n + 1); waits = waits; barriers = set s.barriers b d.after } ≡ applied s t b d
-stored s t b d e f = rw (e, f)
 
 -- ---- where each thread's rows begin
 

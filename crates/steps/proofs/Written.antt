@@ -14,7 +14,7 @@ use Rattle.tables.specs.Limits.{most_threads}
 use Rattle.sets.specs.declared.Set.{Set}
 use Rattle.sets.specs.Set.{has_but}
 use Rattle.turns.specs.declared.ready.Ready.{Ready}
-use Rattle.turns.specs.Turns.{settled, has_any_left, may_step, does_go_first, lowest_or}
+use Rattle.turns.specs.Turns.{has_any_left, may_step, does_go_first, lowest_or}
 use Rattle.turns.specs.Ready.{looked, held_after}
 use Rattle.turns.proofs.Turns.{left_so}
 use Rattle.turns.proofs.Kept.{Kept, kept_more, but_left, but_first, or_bound, or_there, or_bound_none}
@@ -24,7 +24,8 @@ use Rattle.steps.specs.declared.state.Replay.{Replay}
 use Rattle.steps.specs.State.{ran_so_far}
 use Rattle.steps.specs.Step.{allowed, stepped}
 use Rattle.steps.specs.Writing.{does_go_on, stepping, picked, picked_first, writes, FilledBy}
-use Rattle.steps.proofs.Stepping.{Found, found_did, found_after, found_command, stored}
+use Rattle.steps.specs.Needs.{applied}
+use Rattle.steps.proofs.Stepping.{Found, found_did, found_after, found_command}
 use Rattle.steps.proofs.Filled.{filled_by}
 
 module _ (early : List Bool) (commands lengths before : List ℕ) (from : Replay) where
@@ -109,21 +110,20 @@ module _ (early : List Bool) (commands lengths before : List ℕ) (from : Replay
             filled_by (omega (arith, length-append W.front (t ∷ []), W.long, ap length f)) (stored_so ∙ ap (λ (r : List ℕ). r ++ drop (i + 1) before) (sym f))
 
         -- or the step is written, and the schedule goes on
-        pub writing_more : does_go_on made.did ≡ true → {n x : ℕ} {now : List ℕ} {s' : Replay} {r' : Ready} {b' : Set}
-            → n ≡ ran_so_far s t → x ≡ row.command + 1 → now ≡ settled t made.wait made.frees s.waits
-            → s' ≡ record { next = set s.next t (n + 1); waits = now; barriers = set s.barriers row.barrier made.after }
-            → r' ≡ looked lengths early r t (n + 1) x → b' ≡ held_after now (length lengths) t made.wait made.frees blocked
+        pub writing_more : does_go_on made.did ≡ true → {x : ℕ} {s' : Replay} {r' : Ready} {b' : Set}
+            → x ≡ row.command + 1 → s' ≡ applied s t row.barrier made
+            → r' ≡ looked lengths early r t (ran_so_far s t + 1) x → b' ≡ held_after s'.waits (length lengths) t made.wait made.frees blocked
             → Writing (set room i t) s' r' b' (i + 1)
         unfolding stepping
-        writing_more e {n} {x} {now} en ex ew es er eb =
-            let after : (stepped commands lengths s t).after ≡ record { next = set s.next t (n + 1); waits = now; barriers = set s.barriers row.barrier made.after } =
-            found_after F e ∙ sym (stored s t row.barrier made en ew) in
-            rw (es, er, eb)
+        writing_more e {x} ex es er eb =
+            let n = ran_so_far s t in
+            let after : (stepped commands lengths s t).after ≡ applied s t row.barrier made = found_after F e in
+            rw (er, eb, es)
             (record {
               next_long = length-set s.next t (n + 1) ∙ W.next_long;
-              waits_long = ap length ew ∙ length-map (set s.waits t made.wait) _ ∙ length-set s.waits t made.wait ∙ W.waits_long;
+              waits_long = length-map (set s.waits t made.wait) _ ∙ length-set s.waits t made.wait ∙ W.waits_long;
               kept =
-                  kept_more lengths early W.kept t thread made.wait made.frees (omega (arith, W.waits_long)) (n + 1) x (omega (arith, W.next_long)) ew
+                  kept_more lengths early W.kept t thread made.wait made.frees (omega (arith, W.waits_long)) (n + 1) x (omega (arith, W.next_long)) refl
                   (omega (arith, found_command F e));
               front = W.front ++ t ∷ [];
               long = omega (arith, length-append W.front (t ∷ []), W.long);

@@ -7,7 +7,7 @@ use crate::row::Row;
 use crate::step::{Did, How};
 use barriers::{Barrier, Met, more};
 
-// What the step did; what its thread waits for then; what those waited for who are released, or 0; and the barrier.
+// What the step did; what its thread waits for then; what those waited for who are released, or 0; and the barrier. Both are numbers as the state's list holds them: an Option would only be made one again.
 #[derive(Clone, Copy)]
 pub(crate) struct Change {
     pub(crate) did: Did,

@@ -12,7 +12,7 @@ use crate::step::{Did, How};
 use barriers::more;
 use relation::at;
 use tables::Table;
-use turns::{put, settle};
+use turns::put;
 use verdicts::Verdict;
 
 // Where a replay has come to: the state, each command's generation, the steps that ran, and 5, 7 or, if all ran, 0.
@@ -87,7 +87,6 @@ fn play(
         let barrier = state.barriers[b];
         let made = run_row(row, barrier);
         let did = made.did;
-        let after = made.after;
         let Did::Took(how) = did else {
             return stop(
                 state,
@@ -104,9 +103,7 @@ fn play(
                 put(&mut generations, c, generation);
             }
         }
-        state.barriers[b] = after;
-        state.next[t] = n + 1;
-        settle(&mut state.waits, t, made.wait, made.frees);
+        state.store(t, b, made);
         steps = more(steps);
     }
     stop(state, generations, steps, Verdict::Clean)

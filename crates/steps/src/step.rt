@@ -8,7 +8,6 @@ use crate::row::thread_row;
 use crate::state::Replay;
 use relation::at;
 use tables::first_row;
-use turns::settle;
 
 // An allowed step met a mismatch at a command, or ran a command, which has this generation.
 #[derive(Clone, Copy)]
@@ -53,13 +52,10 @@ impl Replay {
         let barrier = self.barriers[b];
         let made = run_row(row, barrier);
         let did = made.did;
-        let after = made.after;
         if !goes_on(did) {
             return Stepped { after: self, did };
         }
-        self.barriers[b] = after;
-        self.next[t] = n + 1;
-        settle(&mut self.waits, t, made.wait, made.frees);
+        self.store(t, b, made);
         Stepped { after: self, did }
     }
 }

@@ -11,7 +11,7 @@ use crate::state::Replay;
 use crate::step::goes_on;
 use relation::at;
 use tables::Table;
-use turns::{Ready, blocked_after, blocked_set, settle};
+use turns::{Ready, blocked_after, blocked_set};
 
 // Where all threads stand.
 fn all_ready(
@@ -58,14 +58,10 @@ pub fn write_on(
         let b = row.barrier;
         let barrier = state.barriers[b];
         let made = run_row(row, barrier);
-        let did = made.did;
-        let after = made.after;
-        if !goes_on(did) {
+        if !goes_on(made.did) {
             return steps + 1;
         }
-        state.barriers[b] = after;
-        state.next[t] = n + 1;
-        settle(&mut state.waits, t, made.wait, made.frees);
+        state.store(t, b, made);
         ready = ready.look(lengths, early, t, n + 1, row.command + 1);
         blocked = blocked_after(blocked, lengths, &state.waits, t, made.wait, made.frees);
     }

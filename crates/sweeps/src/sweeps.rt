@@ -1,4 +1,4 @@
-// Rows joined along listed pairs, sweep after sweep, until nothing changes. In which order can only cost time, so no promise speaks of it.
+// Rows joined along listed pairs, which callers of `put_reach` lend as two numbers each, sweep after sweep, until nothing changes. In which order can only cost time, so no promise speaks of it.
 ghost use Rattle.std.specs.Prelude.{◌≤◌, length};
 ghost use Rattle.relation.specs.Table.{words};
 ghost use Rattle.sweeps.specs.Pairs.{pair_count, PairBetween, PairIn};

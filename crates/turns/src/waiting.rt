@@ -1,4 +1,4 @@
-// What threads wait for: 0, or a barrier plus 1.
+// What threads wait for: 0, or a barrier plus 1, in a list of fixed size of the replay state, which callers of `settle` lend with any numbers.
 ghost use Rattle.std.specs.Prelude.{◌≡◌};
 ghost use Rattle.turns.specs.Turns.{held, let_go_of, released};
 ghost use Rattle.turns.specs.Promise.{PutsNumber, Settles, AnswersLowestBlocked, AnswersBlockedSet, AnswersBlockedAfter};

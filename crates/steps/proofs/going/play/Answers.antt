@@ -2,8 +2,8 @@ use mathlib.Core.Path.{sym, ◌∙◌}
 use native.Mathlib.Omega.{arith}
 use lib.ListN.{get_or}
 use borrow.Author.Rules.{rules}
-use Rattle.tables.specs.Limits.{most_threads, most_rows}
-use Rattle.steps.proofs.Stepping.{found, found_thread, found_next, stored}
+use Rattle.tables.specs.Limits.{most_rows}
+use Rattle.steps.proofs.Stepping.{found, found_thread, found_next}
 use Rattle.steps.proofs.Entries.{at_start, at_end, at_refused, at_mismatch, at_more, ran_goes}
 use Rattle.steps.proofs.going.play.Goals as goal
 
@@ -40,40 +40,22 @@ pub slice_bounds-put-end : goal.slice_bounds-put-end
 unfolding most_rows
 slice_bounds-put-end c = sym c.loop-entry.invariant.1
 
-pub overflow_add-state : goal.overflow_add-state
-overflow_add-state c =
-    let a = c.args in
-    let t = get_or a.entries.now c.loop-entry.entry-index 0 in
-    let F =
-    found a.commands.now a.lengths.now c.loop-entry.state t c.at.result _ _ _ _ (λ l. c.at.ensures ∙ c.first_rows-firsts.ensures.each t l)
-    c.at-n.ensures c.at-wait.ensures c.thread_row-row.ensures.0 c.run_row-made.ensures in
-    let n = found_next F (ran_goes _ _ _ _ c.loop-entry.invariant.2 c.loop-entry-test.true F c.in-Took.is c.in-Ran.is) in
-    omega (arith, n, c.at-n.ensures, c.type_inv.lengths t)
-
-pub offset_bounds-state-t : goal.offset_bounds-state-t
-unfolding most_threads
-offset_bounds-state-t c =
-    let a = c.args in
-    let t = get_or a.entries.now c.loop-entry.entry-index 0 in
-    let F =
-    found a.commands.now a.lengths.now c.loop-entry.state t c.at.result _ _ _ _ (λ l. c.at.ensures ∙ c.first_rows-firsts.ensures.each t l)
-    c.at-n.ensures c.at-wait.ensures c.thread_row-row.ensures.0 c.run_row-made.ensures in
-    let n = found_thread F (ran_goes _ _ _ _ c.loop-entry.invariant.2 c.loop-entry-test.true F c.in-Took.is c.in-Ran.is) in
-    omega (arith, n)
-
-pub bounds-state-t : goal.bounds-state-t
-unfolding most_threads
-bounds-state-t c =
-    let a = c.args in
-    let t = get_or a.entries.now c.loop-entry.entry-index 0 in
-    let F =
-    found a.commands.now a.lengths.now c.loop-entry.state t c.at.result _ _ _ _ (λ l. c.at.ensures ∙ c.first_rows-firsts.ensures.each t l)
-    c.at-n.ensures c.at-wait.ensures c.thread_row-row.ensures.0 c.run_row-made.ensures in
-    let n = found_thread F (ran_goes _ _ _ _ c.loop-entry.invariant.2 c.loop-entry-test.true F c.in-Took.is c.in-Ran.is) in
-    omega (arith, n)
-
 pub loop-entry-smaller : goal.loop-entry-smaller
 loop-entry-smaller c = omega (arith, c.loop-entry-test.true)
+
+pub store-requires : goal.store-requires
+store-requires c =
+    let a = c.args in
+    let t = get_or a.entries.now c.loop-entry.entry-index 0 in
+    let F =
+    found a.commands.now a.lengths.now c.loop-entry.state t c.at.result _ _ _ _ (λ l. c.at.ensures ∙ c.first_rows-firsts.ensures.each t l)
+    c.at-n.ensures c.at-wait.ensures c.thread_row-row.ensures.0 c.run_row-made.ensures in
+    let goes = ran_goes _ _ _ _ c.loop-entry.invariant.2 c.loop-entry-test.true F c.in-Took.is c.in-Ran.is in
+    record {
+      thread = found_thread F goes;
+      barrier = c.thread_row-row.ensures.1;
+      counts = omega (arith, found_next F goes, c.type_inv.lengths t);
+    }
 
 pub loop-entry-preserved : goal.loop-entry-preserved
 unfolding most_rows
@@ -86,7 +68,7 @@ loop-entry-preserved c =
       search rules,
       search rules,
       at_more _ _ _ _ c.loop-entry.invariant.2 c.loop-entry-test.true F c.in-Took.is c.in-Ran.is
-          (stored c.loop-entry.state t _ c.run_row-made.result c.at-n.ensures c.settle.ensures) c.put.ensures c.more-steps.ensures,
+          c.store.ensures c.put.ensures c.more-steps.ensures,
     )
 
 pub returns : goal.returns

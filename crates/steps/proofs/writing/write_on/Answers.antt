@@ -31,16 +31,16 @@ returns-then-not-goes_on c =
     c.thread_row-row.ensures.0 c.run_row-made.ensures in
     writing_last _ _ _ _ _ c.loop-steps.invariant (omega (arith, c.loop-steps-test.true)) h.1 h.0 F (sym c.goes_on.ensures ∙ c.if-not-goes_on.true)
 
-pub overflow_add-state : goal.overflow_add-state
-overflow_add-state c =
+pub store-requires : goal.store-requires
+store-requires c =
     let a = c.args in
     let t = c.in-Some.t in
     let h = below_hit (sym c.in-Some.is ∙ c.choose.ensures) in
     let F =
     found a.commands.now a.lengths.now c.loop-steps.state t _ _ _ _ _ (c.first_rows-firsts.ensures.each t) refl refl
     c.thread_row-row.ensures.0 c.run_row-made.ensures in
-    let n = found_next F (sym c.goes_on.ensures ∙ c.if-not-goes_on.false) in
-    omega (arith, n, c.type_inv.lengths t)
+    let goes = sym c.goes_on.ensures ∙ c.if-not-goes_on.false in
+    record { thread = h.0; barrier = c.thread_row-row.ensures.1; counts = omega (arith, found_next F goes, c.type_inv.lengths t) }
 
 pub overflow_add-n : goal.overflow_add-n
 overflow_add-n c =
@@ -75,7 +75,7 @@ loop-steps-preserved c =
     found a.commands.now a.lengths.now c.loop-steps.state t _ _ _ _ _ (c.first_rows-firsts.ensures.each t) refl refl
     c.thread_row-row.ensures.0 c.run_row-made.ensures in
     writing_more _ _ _ _ _ c.loop-steps.invariant (omega (arith, c.loop-steps-test.true)) h.1 h.0 F (sym c.goes_on.ensures ∙ c.if-not-goes_on.false)
-    refl refl c.settle.ensures refl c.look-ready.ensures c.blocked_after-blocked.ensures
+    refl c.store.ensures c.look-ready.ensures c.blocked_after-blocked.ensures
 
 pub returns : goal.returns
 returns c =
@@ -110,11 +110,3 @@ offset_bounds-firsts-t c = omega (arith, (below_hit (sym c.in-Some.is ∙ c.choo
 pub bounds-firsts-t : goal.bounds-firsts-t
 unfolding most_threads
 bounds-firsts-t c = omega (arith, (below_hit (sym c.in-Some.is ∙ c.choose.ensures)).0)
-
-pub offset_bounds-state-t-in-loop-steps-2 : goal.offset_bounds-state-t-in-loop-steps-2
-unfolding most_threads
-offset_bounds-state-t-in-loop-steps-2 c = omega (arith, (below_hit (sym c.in-Some.is ∙ c.choose.ensures)).0)
-
-pub bounds-state-t-in-loop-steps-2 : goal.bounds-state-t-in-loop-steps-2
-unfolding most_threads
-bounds-state-t-in-loop-steps-2 c = omega (arith, (below_hit (sym c.in-Some.is ∙ c.choose.ensures)).0)

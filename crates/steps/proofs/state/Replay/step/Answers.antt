@@ -4,7 +4,7 @@ use Prim.Native.Nat.{min}
 use native.Mathlib.Omega.{arith}
 use Rattle.tables.specs.Limits.{most_threads}
 use Rattle.tables.proofs.Rows.{first_within}
-use Rattle.steps.proofs.Stepping.{found, found_thread, found_next, answers_kept, answers_on, first_small, stored}
+use Rattle.steps.proofs.Stepping.{found, found_thread, found_next, answers_kept, answers_on, first_small}
 use Rattle.steps.proofs.state.Replay.step.Goals as goal
 
 pub thread_row-row-requires : goal.thread_row-row-requires
@@ -21,34 +21,18 @@ returns-then-not-goes_on c =
     c.at-n.ensures c.at-wait.ensures c.thread_row-row.ensures.0 c.run_row-made.ensures in
     answers_kept F (sym c.goes_on.ensures ∙ c.if-not-goes_on.true)
 
-pub overflow_add-self : goal.overflow_add-self
-overflow_add-self c =
+pub store-requires : goal.store-requires
+store-requires c =
     let a = c.args in
     let F =
     found a.commands.now a.lengths.now a.self a.t c.first_row.result _ _ _ _ (λ l. c.first_row.ensures ∙ first_within a.lengths.now a.t (omega arith))
     c.at-n.ensures c.at-wait.ensures c.thread_row-row.ensures.0 c.run_row-made.ensures in
-    let n = found_next F (sym c.goes_on.ensures ∙ c.if-not-goes_on.false) in
-    omega (arith, n, c.at-n.ensures, c.type_inv.lengths a.t)
-
-pub offset_bounds-self-t : goal.offset_bounds-self-t
-unfolding most_threads
-offset_bounds-self-t c =
-    let a = c.args in
-    let F =
-    found a.commands.now a.lengths.now a.self a.t c.first_row.result _ _ _ _ (λ l. c.first_row.ensures ∙ first_within a.lengths.now a.t (omega arith))
-    c.at-n.ensures c.at-wait.ensures c.thread_row-row.ensures.0 c.run_row-made.ensures in
-    let l = found_thread F (sym c.goes_on.ensures ∙ c.if-not-goes_on.false) in
-    omega (arith, l)
-
-pub bounds-self-t : goal.bounds-self-t
-unfolding most_threads
-bounds-self-t c =
-    let a = c.args in
-    let F =
-    found a.commands.now a.lengths.now a.self a.t c.first_row.result _ _ _ _ (λ l. c.first_row.ensures ∙ first_within a.lengths.now a.t (omega arith))
-    c.at-n.ensures c.at-wait.ensures c.thread_row-row.ensures.0 c.run_row-made.ensures in
-    let l = found_thread F (sym c.goes_on.ensures ∙ c.if-not-goes_on.false) in
-    omega (arith, l)
+    let goes = sym c.goes_on.ensures ∙ c.if-not-goes_on.false in
+    record {
+      thread = found_thread F goes;
+      barrier = c.thread_row-row.ensures.1;
+      counts = omega (arith, found_next F goes, c.type_inv.lengths a.t);
+    }
 
 pub returns : goal.returns
 returns c =
@@ -57,4 +41,4 @@ returns c =
     found a.commands.now a.lengths.now a.self a.t c.first_row.result _ _ _ _ (λ l. c.first_row.ensures ∙ first_within a.lengths.now a.t (omega arith))
     c.at-n.ensures c.at-wait.ensures c.thread_row-row.ensures.0 c.run_row-made.ensures in
     answers_on F (sym c.goes_on.ensures ∙ c.if-not-goes_on.false)
-    (stored a.self a.t _ c.run_row-made.result c.at-n.ensures c.settle.ensures)
+    c.store.ensures
