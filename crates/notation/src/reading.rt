@@ -41,12 +41,15 @@ pub fn told(reading: Reading) -> Told
     }
 }
 
-// Are m commands or t threads more than a table has, or than rooms of these sizes hold?
+// Are there more commands or threads than a table has, or than rooms of these lengths hold?
 #[tactic(auto, unfolding(crate::specs::Reading::is_too_many, tables::specs::Limits::most_rows, tables::specs::Limits::most_threads))]
-fn too_many(m: usize, t: usize, room: usize, places: usize) -> bool
-    ensures { result ≡ is_too_many m t room places }
+fn too_many(sizes: Sizes, room: usize, places: usize) -> bool
+    ensures { result ≡ is_too_many sizes.commands sizes.threads room places }
 {
-    (Table::ROWS < m) | (Table::THREADS < t) | (room / 3 < m) | (places < t)
+    (Table::ROWS < sizes.commands)
+        | (Table::THREADS < sizes.threads)
+        | (room / 3 < sizes.commands)
+        | (places < sizes.threads)
 }
 
 // Reads a text into the two lent tables.
@@ -57,7 +60,7 @@ pub fn read(text: &[u8], commands: &mut [u32], lengths: &mut [u32]) -> Reading
         return Err(Unread::Over);
     }
     let sizes = scan(text).map_err(Unread::Unfit)?;
-    if too_many(sizes.commands, sizes.threads, commands.len(), lengths.len()) {
+    if too_many(sizes, commands.len(), lengths.len()) {
         return Err(Unread::Over);
     }
     write(text, commands, lengths);
