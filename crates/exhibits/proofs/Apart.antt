@@ -3,8 +3,8 @@ use mathlib.Core.Path.{◌≡◌, sym, ap, ◌∙◌}
 use mathlib.Core.List.{List, ◌++◌}
 use Prim.Native.Nat.{ℕ, ◌≤◌}
 use native.Mathlib.Omega.{arith}
-use lib.ListN.{length, take, drop, replicate, length-append, length-replicate}
-use lib.Seq.{length-take-le, take_at}
+use lib.ListN.{length, take, drop, replicate, length-replicate}
+use lib.Seq.{take_at}
 use Rattle.tables.specs.Limits.{most_rows}
 use Rattle.tables.specs.Rows.{rows}
 use Rattle.rules.specs.Rules.{Keeps}
@@ -25,12 +25,6 @@ full_room K = (K, omega (arith, K.few_rows, length-replicate {A = ℕ} 512 0))
 
 -- the front of the room is the schedule
 module _ {σ room after : List ℕ} {n : ℕ} (B : FilledBy σ room after n) where
-  pub front_fits : n ≤ length after
-  front_fits = omega (arith, B.long, ap length (filled_room B), length-append σ (drop n room))
-
-  pub front_long : n ≡ length (take n after)
-  front_long = sym (length-take-le n after front_fits)
-
   front_is : take n after ≡ σ
   front_is = ap (take n) (filled_room B) ∙ take_at σ (drop n room) n (sym B.long)
 

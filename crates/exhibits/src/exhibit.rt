@@ -50,7 +50,7 @@ impl Admitted<'_> {
         put_steps(out, &schedule[..steps]);
     }
 
-    // Of a reuse fault (c, d), judged against the generations.
+    // Of a reuse fault (c, d), judged against the generations. No one function with `put_way`: its line hangs on the schedule, and a closure that takes that is no shorter.
     fn put_reuse(&self, out: &mut Printer<'_>, c: usize, d: usize)
         ensures { Puts out.old out.new (reuse_exhibit self.now.tables.commands.now self.now.tables.lengths.now
             (related self.now.relation.now (rows self.now.tables.commands.now))

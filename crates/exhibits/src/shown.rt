@@ -29,7 +29,7 @@ fn end_of(tables: Tables, schedule: &[u32]) -> End
     }
 }
 
-// The lowest command whose generation is not the one offered, with both; or m.
+// The lowest command whose generation is not the one offered, with both; or m, which `other_generation_of` says too: any sheet has its exhibits.
 fn other_generation(found: &[u32], offered: &[u32], m: usize) -> Shown
     requires { (m ≤ length found.now) × (m ≤ length offered.now) }
     ensures { result ≡ other_generation_of (number_at found.now) (number_at offered.now) m }

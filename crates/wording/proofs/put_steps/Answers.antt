@@ -1,9 +1,6 @@
 use Rattle.printing.proofs.Placing.{puts_on}
-use Rattle.wording.proofs.Along.{along_none, along_more, along_end, steps_next, steps_end}
+use Rattle.wording.proofs.Along.{along_more, along_end, steps_next, steps_end}
 use Rattle.wording.proofs.put_steps.Goals as goal
-
-pub loop-i-init : goal.loop-i-init
-loop-i-init c = along_none _ _
 
 pub loop-i-preserved : goal.loop-i-preserved
 loop-i-preserved c =

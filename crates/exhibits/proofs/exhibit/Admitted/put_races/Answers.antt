@@ -1,16 +1,13 @@
 use native.Mathlib.Omega.{arith}
 use Rattle.sheet.specs.Sheet.{most_kept}
 use Rattle.printing.proofs.Placing.{puts_on}
-use Rattle.wording.proofs.Along.{along_none, along_more, along_end}
+use Rattle.wording.proofs.Along.{along_more, along_end}
 use Rattle.exhibits.proofs.Races.{races_next, races_end}
 use Rattle.exhibits.proofs.exhibit.Admitted.put_races.Goals as goal
 
 pub shared_ref_as_front-pair-items : goal.shared_ref_as_front-pair-items
 unfolding most_kept
 shared_ref_as_front-pair-items c = omega (arith, c.kept.ensures)
-
-pub loop-pair-init : goal.loop-pair-init
-loop-pair-init c = along_none _ _
 
 pub loop-pair-preserved : goal.loop-pair-preserved
 loop-pair-preserved c =

@@ -1,22 +1,10 @@
 -- `put_reuse` meets its contract: what the schedule shows, and the schedule from the front of its room. Assumes nothing.
 use Rattle.exhibits.specs.Exhibits.{reuse_exhibit}
-use Rattle.exhibits.proofs.Apart.{full_room, front_fits, front_long, puts_shown}
+use Rattle.exhibits.proofs.Apart.{full_room, puts_shown}
 use Rattle.exhibits.proofs.exhibit.Admitted.put_reuse.Goals as goal
 
 pub fill_apart-steps-requires : goal.fill_apart-steps-requires
 fill_apart-steps-requires c = full_room c.args.self.now.roomy.keeps
-
-pub slice_bounds-schedule-end : goal.slice_bounds-schedule-end
-slice_bounds-schedule-end c = front_fits c.fill_apart-steps.ensures
-
-pub slice_bounds-shown_by-end : goal.slice_bounds-shown_by-end
-slice_bounds-shown_by-end c = front_long c.fill_apart-steps.ensures
-
-pub slice_bounds-schedule-end-2 : goal.slice_bounds-schedule-end-2
-slice_bounds-schedule-end-2 c = front_fits c.fill_apart-steps.ensures
-
-pub slice_bounds-put_steps-end : goal.slice_bounds-put_steps-end
-slice_bounds-put_steps-end c = front_long c.fill_apart-steps.ensures
 
 pub returns : goal.returns
 unfolding reuse_exhibit

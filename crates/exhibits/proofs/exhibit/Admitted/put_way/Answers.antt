@@ -1,16 +1,10 @@
 -- `put_way` meets its contract: the line, and the schedule from the front of its room. Assumes nothing.
 use Rattle.exhibits.specs.Exhibits.{order_exhibit}
-use Rattle.exhibits.proofs.Apart.{full_room, front_fits, front_long, puts_below}
+use Rattle.exhibits.proofs.Apart.{full_room, puts_below}
 use Rattle.exhibits.proofs.exhibit.Admitted.put_way.Goals as goal
 
 pub fill_apart-steps-requires : goal.fill_apart-steps-requires
 fill_apart-steps-requires c = full_room c.args.self.now.roomy.keeps
-
-pub slice_bounds-schedule-end : goal.slice_bounds-schedule-end
-slice_bounds-schedule-end c = front_fits c.fill_apart-steps.ensures
-
-pub slice_bounds-put_steps-end : goal.slice_bounds-put_steps-end
-slice_bounds-put_steps-end c = front_long c.fill_apart-steps.ensures
 
 pub returns : goal.returns
 unfolding order_exhibit
