@@ -13,7 +13,7 @@ use sweeps::put_reach;
 use tables::{Table, put_heads};
 use verdicts::Verdict;
 
-// The rooms suffice: pairs are listed, and what they reach is happens-before. A seat that nobody takes holds no row's number.
+// The rooms suffice: pairs are listed, and what they reach is happens-before. A seat that nobody takes holds no row's number, where an Option would make this room twice as large.
 fn put_reached(commands: &[u32], lengths: &[u32], generations: &[u32], relation: &mut [u32])
     requires { Ample commands.now (length relation.old) (length generations.now) }
     ensures { Reached commands.now lengths.now (number_at generations.now)
