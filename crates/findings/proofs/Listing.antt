@@ -7,7 +7,7 @@ use Prim.Native.Nat.{ℕ, zero, suc, ◌+◌, ◌%◌, ◌≤◌, ◌<◌, min}
 use native.Mathlib.Decide.{ℕ_discrete, dec_lt}
 use native.Mathlib.Numerals.{add-one}
 use native.Mathlib.Omega.{arith}
-use lib.ListN.{length, get_or, set, replicate, length-set, length-replicate, get_or-replicate}
+use lib.ListN.{length, get_or, set, replicate, length-set, get_or-replicate}
 use lib.Seq.{get_or-set_same, get_or-set_other}
 use Rattle.tables.specs.Limits.{most_rows, barriers}
 use Rattle.tables.specs.Rows.{rows}
@@ -59,16 +59,6 @@ module _ (s : Searched) (f : Fault) where
       }
 
   module _ (fronts nexts : List ℕ) (d : ℕ) (L : Lists s f fronts nexts (d + 1)) where
-    -- d is in no list
-    pub lists_passed : listed s f d ≡ false → Lists s f fronts nexts d
-    lists_passed out =
-        record {
-          fronts_fit = L.fronts_fit;
-          nexts_fit = L.nexts_fit;
-          front = λ k l. next_down (L.front k l) (λ m. clashing m out);
-          next = λ x h l m. by_cases (ℕ_discrete x d) (λ (e : x ≡ d). clashing m (rw (sym e) at out)) (λ (n : x ≢ d). L.next x (omega arith) l m);
-        }
-
     module _ (low : d < rows s.commands.now) (is : listed s f d ≡ true) where
       abbrev k₀ : ℕ
       k₀ = key s f d

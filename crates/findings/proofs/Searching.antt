@@ -1,18 +1,18 @@
 -- The pairs of a search, one after the other, make the sheet of their list. Assumes nothing.
-use mathlib.Core.Path.{◌≡◌, refl, sym, ap, ◌∙◌}
+use mathlib.Core.Path.{◌≡◌, sym, ap, ◌∙◌}
 use mathlib.Core.Bool.{Bool}
-use mathlib.Core.List.{List, [], ◌∷◌, ◌++◌, append-nil}
+use mathlib.Core.List.{List, [], ◌∷◌, ◌++◌}
 use Prim.Native.Nat.{ℕ, ◌+◌, ◌*◌, ◌≤◌, ◌<◌}
 use native.Mathlib.Nat.{suc-mul, mul-le-mul}
 use native.Mathlib.Numerals.{add-one}
 use native.Mathlib.Omega.{arith}
-use lib.ListN.{length, length-append}
+use lib.ListN.{length}
 use Rattle.tables.specs.Limits.{most_rows}
 use Rattle.sheet.specs.declared.Pair.{Pair}
 use Rattle.sheet.specs.declared.Sheet.{Sheet}
-use Rattle.sheet.specs.Sheet.{most_kept, most_counted, sheet_of, added}
+use Rattle.sheet.specs.Sheet.{most_counted, sheet_of, added}
 use Rattle.sheet.specs.Needs.{add_all}
-use Rattle.sheet.proofs.Sheets.{add_all_append, add_all_from, counted_on, sheet_total}
+use Rattle.sheet.proofs.Sheets.{add_all_append, add_all_from, sheet_total}
 use Rattle.faults.specs.Faults.{along_row, all_rows}
 use Rattle.faults.proofs.Searched.{row_length, all_none, all_next, all_length}
 

@@ -8,8 +8,8 @@ use native.Mathlib.Decide.{ℕ_discrete}
 use native.Mathlib.Numerals.{add-one}
 use native.Mathlib.Omega.{arith}
 use lib.Dec.{ltb}
-use lib.ListN.{length, get_or, set, take, length-set}
-use lib.Seq.{get_or-set_same, get_or-set_other, get_or-take, length-take-le}
+use lib.ListN.{length, take}
+use lib.Seq.{get_or-take, length-take-le}
 use borrow.Author.Tests.{not-true, ltb-true, lt-ltb}
 use Rattle.std.specs.Prelude.{Some, None}
 use Rattle.tables.specs.Rows.{rows, is_first}
@@ -56,54 +56,6 @@ adds_map {D = D} l f g A =
       new = λ i k x. A.new i k (g i k x);
       only = λ i k x. ⊎_elim inl (λ (d : D i k). inr (f i k d)) (A.only i k x);
     }
-
--- one is stored after the others
-module _ (a : List ℕ) (n i k : ℕ) (room : n * 2 + 2 ≤ length a) where
-  abbrev half : List ℕ
-  half = set a (n * 2) i
-
-  abbrev stored : List ℕ
-  stored = set half (n * 2 + 1) k
-
-  stored_other : (p : ℕ) → p ≢ n * 2 → p ≢ n * 2 + 1 → get_or stored p 0 ≡ get_or a p 0
-  stored_other p u v = get_or-set_other half (n * 2 + 1) p k 0 v ∙ get_or-set_other a (n * 2) p i 0 u
-
-  stored_from : get_or stored (n * 2) 0 ≡ i
-  stored_from = get_or-set_other half (n * 2 + 1) (n * 2) k 0 (omega arith) ∙ get_or-set_same a (n * 2) i 0 (omega arith)
-
-  stored_to : get_or stored (n * 2 + 1) 0 ≡ k
-  stored_to = get_or-set_same half (n * 2 + 1) k 0 (rw (length-set a (n * 2) i) (omega arith))
-
-  pub adds_one : Adds 1 (OnePair i k) a stored n (n + 1)
-  adds_one =
-      record {
-        len = length-set half (n * 2 + 1) k ∙ length-set a (n * 2) i;
-        few = omega arith;
-        kept = λ x y P.
-            record {
-              at = P.at;
-              low = P.low;
-              high = omega (arith, P.high);
-              from = stored_other (P.at * 2) (omega (arith, P.high)) (omega (arith, P.high)) ∙ P.from;
-              to = stored_other (P.at * 2 + 1) (omega (arith, P.high)) (omega (arith, P.high)) ∙ P.to;
-            };
-        new = λ x y P. record { at = n; low = omega arith; high = omega arith; from = stored_from ∙ sym P.from; to = stored_to ∙ sym P.to };
-        only = λ x y P.
-            by_cases (ℕ_discrete P.at n)
-            (λ (e : P.at ≡ n).
-            inr (record {
-              from = sym P.from ∙ ap (λ (p : ℕ). get_or stored (p * 2) 0) e ∙ stored_from;
-              to = sym P.to ∙ ap (λ (p : ℕ). get_or stored (p * 2 + 1) 0) e ∙ stored_to;
-            }))
-            (λ (d : P.at ≢ n).
-            inl (record {
-              at = P.at;
-              low = P.low;
-              high = omega (arith, P.high);
-              from = sym (stored_other (P.at * 2) (omega arith) (omega arith)) ∙ P.from;
-              to = sym (stored_other (P.at * 2 + 1) (omega arith) (omega arith)) ∙ P.to;
-            }));
-      }
 
 -- ---- the pairs of one command, and of one more
 

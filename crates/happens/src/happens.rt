@@ -13,7 +13,7 @@ use sweeps::put_reach;
 use tables::{Table, Tables, put_heads};
 use verdicts::Refusal;
 
-// The rooms suffice: pairs are listed, and what they reach is happens-before. A seat that nobody takes holds no row's number.
+// The rooms suffice: pairs are listed, and what they reach is happens-before. A seat that nobody takes holds no row's number, where an Option would make this room twice as large.
 fn put_reached(tables: Tables, generations: &[u32], relation: &mut [u32])
     requires { Ample tables.commands.now (length relation.old) (length generations.now) }
     ensures { Reached tables.entry.commands.now tables.entry.lengths.now (number_at generations.now)

@@ -52,10 +52,6 @@ add_all_from ps (q ∷ qs) l =
     ∙ ap sheet_of (append_assoc ps (q ∷ []) qs)
 
 -- a sheet that keeps as many as it can only counts
-pub counted_on : (ps qs : List Pair) → most_kept ≤ length ps → record { pairs = (sheet_of ps).pairs; total = length ps + length qs } ≡ sheet_of (ps ++ qs)
-unfolding sheet_of
-counted_on ps qs h = ap₂ (λ (l : List Pair) (n : ℕ). record { pairs = l; total = n }) (full most_kept ps qs h) (sym (length-append ps qs))
-
 pub added_full : (s : Sheet) (p : Pair) → most_kept ≤ s.total → s.total < most_counted → record { pairs = s.pairs; total = s.total + 1 } ≡ added s p
 unfolding added
 added_full s p h l = rw (le-ltb s.total most_kept h) (ap (λ (n : ℕ). record { pairs = s.pairs; total = n }) (omega arith))
