@@ -6,6 +6,7 @@ ghost use Rattle.kernels.specs.Needs.{statement_row, expression_row};
 
 use crate::kernel::StatementKind;
 
+// The tables stay rows of numbers, as C lends them to `probe_warp`; a row is read once.
 // The numbers of a statement: the list that it lies in, its kind, and what its kind uses.
 #[derive(Clone, Copy)]
 pub(crate) struct Statement {
@@ -81,6 +82,7 @@ pub(crate) fn first<F: Fn(usize) -> bool>(n: usize, test: F) -> Option<usize>
     requires { (i : ℕ) → i < n → F.pre test i }
     ensures { (p : ℕ → Bool) → ((i : ℕ) (r : Bool) → i < n → F.post test i r → r ≡ p i) → result ≡ found p n }
 {
+    // no `position`: that asks for a test of every number, and these are tests of rows that are there
     for i in 0..n {
         if test(i) {
             return Some(i);

@@ -1,4 +1,5 @@
 // The stack in its room: numbers below 256 are rows, the next 256 are whiles that have begun, all others are tokens.
+// Room and height stay two parameters: the room is the caller's (`step_warp`), and a struct that held it would ask each function for a second clause, that its `room.ghost_name` is kept.
 ghost use Rattle.std.specs.Prelude.{◌≡◌, ◌∷◌, ◌+◌, ◌≤◌, ◌<◌, length, get_or};
 ghost use Rattle.kernels.specs.Limits.{most_statements};
 ghost use Rattle.kernels.specs.Rows.{statements};
@@ -15,7 +16,7 @@ impl Stack {
     pub const ENTRIES: usize = 256;
     // and its room so many numbers
     pub const ROOM: usize = 1024;
-    // from here on, whiles that have begun
+    // from here on, whiles that have begun: a room of numbers is what `step_warp` is lent, of a fixed size
     pub const AGAIN: u64 = 256;
     // from here on, tokens
     pub const TOKENS: u64 = 512;
@@ -81,7 +82,7 @@ pub(crate) fn push_list(stack: &mut [u64], height: usize, code: &[u32], b: u32) 
     let mut top = height;
     for i in (0..code.len() / 5).rev() {
         if code[5 * i] == b {
-            // no `put` here: it is slower, and a row's number is the row
+            // `put` here makes a step on a full table take 1.5 times as long (bench/warps.c); a row's number is the row
             stack[top] = i as u64;
             top += 1;
         }

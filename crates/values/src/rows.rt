@@ -34,10 +34,7 @@ fn operand(values: &[u32], x: u32, i: usize) -> u32
     requires { i ≤ length values.now }
     ensures { result ≡ (if nat_lt x i then slice_index values.now x else 0) }
 {
-    if (x as usize) < i {
-        return values[x as usize];
-    }
-    0
+    values[..i].get(x as usize).copied().unwrap_or(0)
 }
 
 // A row without operands: the number x, what cell x holds, or the lane's number.

@@ -11,10 +11,7 @@ fn strip(x: u32, i: usize, count: usize) -> usize
     requires { i * count < 2 ^ 64 }
     ensures { result ≡ strip_of count x i }
 {
-    if (x as usize) < i {
-        return (x as usize) * count;
-    }
-    i * count
+    i.min(x as usize) * count
 }
 
 // A row without operands.
