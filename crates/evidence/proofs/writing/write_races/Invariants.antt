@@ -5,4 +5,4 @@ use Rattle.evidence.proofs.Putting.{Racing}
 use Rattle.evidence.proofs.writing.write_races.Given as goal
 
 abbrev pub invariant-loop-pair : goal.invariant-loop-pair
-invariant-loop-pair l = Racing l.tables.commands l.tables.lengths (related l.relation (rows l.tables.commands)) l.pairs l.initial.room l.room l.at l.pair-index
+invariant-loop-pair l = Racing l.tables.commands.now l.tables.lengths.now (related l.relation (rows l.tables.commands.now)) l.pairs l.initial.room l.room l.at l.pair-index
