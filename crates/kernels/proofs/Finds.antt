@@ -15,9 +15,6 @@ use Rattle.tables.proofs.Scans.{Scanned, scan_found, scan_end}
 use Rattle.kernels.specs.Refusals.{found}
 
 module _ (p : ℕ → Bool) {n i : ℕ} (s : Scanned p n i) where
-  pub some_found : i < n → p i ≡ true → ltb (lowest p n) n ≡ true
-  some_found l e = let q : i ≡ lowest p n = scan_found p s e in lt-ltb (lowest p n) n (omega arith)
-
   pub some_end : n ≤ i → ltb (lowest p n) n ≡ false
   some_end l = let q : i ≡ lowest p n = scan_end p s l in le-ltb (lowest p n) n (omega arith)
 

@@ -2,8 +2,8 @@
 use mathlib.Core.Path.{◌≡◌, refl, sym, ap₂, ◌∙◌}
 use mathlib.Core.Bool.{Bool, true, false, ◌&&◌}
 use mathlib.Core.List.{List, ◌∷◌}
-use Prim.Native.Nat.{ℕ, ◌≤◌, ◌<◌}
-use borrow.Author.Tests.{le-leb, lt-leb, leb-true}
+use Prim.Native.Nat.{ℕ, ◌≤◌}
+use borrow.Author.Tests.{le-leb, leb-true}
 use lib.Dec.{leb}
 use lib.ListN.{length}
 use Rattle.relation.proofs.Truth.{clashing, both}
@@ -18,22 +18,6 @@ use Rattle.machine.specs.Step.{next_warp, warp_of, workable, StartsWarp, StepsWa
 use Rattle.machine.proofs.Held.{held_none}
 
 module _ (s room : List ℕ) (height : ℕ) where
-  pub too_many : 256 < statements s → false ≡ workable s room height
-  unfolding workable most_statements
-  too_many h = rw (lt-leb (statements s) 256 h)
-
-  off : (a b : Bool) → false ≡ (a && false) && b
-  off true b = refl
-  off false b = refl
-
-  pub too_narrow : length room < stack_room → false ≡ workable s room height
-  unfolding workable
-  too_narrow h = rw (lt-leb stack_room (length room) h) (off (leb (statements s) most_statements) (leb height most_entries))
-
-  pub by_height : statements s ≤ 256 → stack_room ≤ length room → leb height most_entries ≡ workable s room height
-  unfolding workable most_statements
-  by_height h k = rw (le-leb (statements s) 256 h, le-leb stack_room (length room) k)
-
   pub works : statements s ≤ most_statements → stack_room ≤ length room → height ≤ most_entries → workable s room height ≡ true
   unfolding workable
   works few wide low = rw (le-leb (statements s) most_statements few, le-leb stack_room (length room) wide, le-leb height most_entries low)

@@ -11,14 +11,8 @@ use borrow.Author.Tests.{eq-eqb, ne_eqb, lt-ltb, le-ltb}
 use lib.Dec.{eqb}
 use lib.ListN.{get_or, length, set, length-set}
 use lib.Seq.{get_or-set_same, get_or-set_other}
-use Rattle.warps.specs.Language.{Mem, eval}
-use Rattle.values.specs.Expressions.{expression}
 use Rattle.kernels.specs.Rows.{list_of}
 use Rattle.machine.specs.Entries.{Entry, row, again, token, again_from, tokens_from, entry_of, stack_in, from_token, pile}
-
--- the highest lane's value is stored
-pub stored : (μ : Mem) (e : List ℕ) (c c' y y' t t' v : ℕ) → c ≡ c' → y ≡ y' → t ≡ t' → v ≡ eval (expression e y) t μ → set μ c v ≡ set μ c' (eval (expression e y') t' μ)
-stored μ e c c' y y' t t' v p q r w = ap₂ (set μ) p (w ∙ ap₂ (λ (y t : ℕ). eval (expression e y) t μ) q r)
 
 pub held_long : (a : List ℕ) (n : ℕ) → length (stack_in a n) ≡ n
 unfolding stack_in

@@ -1,5 +1,5 @@
 -- The rules of Table 2, as the code comes to them.
-use mathlib.Core.Path.{◌≡◌, refl, sym, ap, ap₂, ◌∙◌}
+use mathlib.Core.Path.{◌≡◌, refl, sym, ap, ◌∙◌}
 use mathlib.Core.Logic.{◌≢◌}
 use mathlib.Core.Bool.{false}
 use mathlib.Core.List.{List, ◌∷◌}
@@ -9,7 +9,7 @@ use borrow.Author.Tests.{eq-eqb, ne_eqb}
 use lib.Dec.{eqb}
 use lib.ListN.{get_or, set}
 use Rattle.warps.specs.Language.{Mem, eval}
-use Rattle.lanes.specs.Words.{sync_token, div_token, brk_token, call_token, woken_by, broken_by, returned_by, leaving, only_active, highest_of}
+use Rattle.lanes.specs.Words.{call_token, woken_by, broken_by, returned_by, highest_of}
 use Rattle.lanes.specs.declared.Lanes.{Lanes}
 use Rattle.std.specs.Prelude.{Option, Some, None}
 use Rattle.std.specs.Option.{unwrap_or}
@@ -20,10 +20,10 @@ use Rattle.kernels.proofs.Numbers.{kind_is, no_statement}
 use Rattle.machine.specs.declared.stack.StackEntry.{StackEntry}
 use Rattle.machine.specs.declared.stack.StackEntry.TheVariants.{Row, Again, Token}
 use Rattle.machine.specs.Needs.{meant}
-use Rattle.kernels.specs.Rows.{kind_of, x_of, y_of, z_of}
-use Rattle.values.specs.Expressions.{expression, acting}
-use Rattle.machine.specs.Entries.{Entry, again, token, entry_of, stack_in, from_token, list_over}
-use Rattle.machine.specs.Step.{Warp, act_of, parted, looping, repeating, obey, advance}
+use Rattle.kernels.specs.Rows.{kind_of, x_of, y_of}
+use Rattle.values.specs.Expressions.{expression}
+use Rattle.machine.specs.Entries.{Entry, token, entry_of, stack_in, from_token, list_over}
+use Rattle.machine.specs.Step.{Warp, parted, looping, repeating, obey, advance}
 use Rattle.machine.proofs.Held.{held_top}
 
 abbrev warp : List Entry → Lanes → Mem → Warp
@@ -34,27 +34,6 @@ same p q r = λ j. record { stack = p j; lanes = q j; cells = r j }
 
 pub by_entry : (s : List ℕ) (x A : ℕ) (W W₁ W₂ : List Entry) → W₁ ≡ token call_token A ∷ W → W₂ ≡ list_over s x W₁ → W₂ ≡ list_over s x (token call_token A ∷ W)
 by_entry s x A W W₁ W₂ p q = q ∙ ap (list_over s x) p
-
-pub acted : (e : List ℕ) (x x' A a : ℕ) (μ : Mem) → x ≡ x' → a ≡ acting A (expression e x) μ 32 → a ≡ acting A (expression e x') μ 32
-acted e x x' A a μ p q = q ∙ ap (λ (x : ℕ). acting A (expression e x) μ 32) p
-
-pub by_named : (s : List ℕ) (b b' : ℕ) (W W' : List Entry) → b ≡ b' → W' ≡ list_over s b W → W' ≡ list_over s b' W
-by_named s b b' W W' p q = q ∙ ap (λ (b : ℕ). list_over s b W) p
-
--- ---- what several parts leave, put together
-module _ (s e : List ℕ) (i : ℕ) (W : List Entry) (L : Lanes) (μ : Mem) (a : ℕ) (ea : a ≡ act_of s e L μ (x_of s i)) where
-  pub by_parting : (W₁ W₂ W₃ W₄ : List Entry) (L' : Lanes) → W₁ ≡ token sync_token L.active ∷ W → W₂ ≡ list_over s (y_of s i) W₁ → W₃ ≡ token div_token a ∷ W₂
-      → W₄ ≡ list_over s (z_of s i) W₃ → L' ≡ leaving L a → warp W₄ L' μ ≡ parted s e i W L μ
-  by_parting W₁ W₂ W₃ W₄ L' p q r t l =
-      same (t ∙ ap (list_over s (z_of s i)) (r ∙ ap₂ (λ (a : ℕ) (R : List Entry). token div_token a ∷ R) ea (q ∙ ap (list_over s (y_of s i)) p))) (l ∙ ap (leaving L) ea) refl
-
-  pub by_repeating : (W₁ : List Entry) (L' : Lanes) → W₁ ≡ list_over s (y_of s i) W → L' ≡ only_active L a → warp W₁ L' μ ≡ repeating s e i W L μ
-  by_repeating W₁ L' p l = same p (l ∙ ap (only_active L) ea) refl
-
--- a while that has begun lies over its brk token
-pub by_looping : (s e : List ℕ) (i : ℕ) (W : List Entry) (L : Lanes) (μ : Mem) (W₁ W₂ : List Entry) (w : Warp) → W₁ ≡ token brk_token L.active ∷ W → W₂ ≡ again i ∷ W₁ → w ≡ repeating s e i W₂ L μ
-    → w ≡ looping s e i W L μ
-by_looping s e i W L μ W₁ W₂ w p q r = r ∙ ap (λ (R : List Entry). repeating s e i R L μ) (q ∙ ap (λ (R : List Entry). again i ∷ R) p)
 
 -- ---- a statement, by its kind: as the code comes to it, a number past the kinds is a return
 module _ (s e : List ℕ) (i : ℕ) (r : Option StatementKind) (k : StatementKind) (er : r ≡ statement_kind (kind_of s i)) (ek : k ≡ unwrap_or r Return) where
