@@ -3,7 +3,7 @@ ghost use Rattle.std.specs.Prelude.{◌≡◌};
 ghost use Rattle.steps.specs.Writing.{FilledBy};
 ghost use Rattle.evidence.specs.Needs.{evidence_in, Showable};
 ghost use Rattle.review.specs.Agreement.{number, Reviewed};
-ghost use Rattle.verdicts.specs.Verdicts.{told_of};
+ghost use Rattle.verdicts.specs.Verdicts.{result_told};
 ghost use Rattle.evidence.specs.Doors.{evidence_refusal, HoldsEvidence, Admissible, Evidenced};
 
 use crate::writing::{write_at, write_races};
@@ -67,7 +67,7 @@ fn review_shown(
 
 // 1 to 4, of tables and the lengths of the three rooms.
 fn refuse_showing(tables: Tables, wide: usize, high: usize, given: usize) -> Result<(), Refusal>
-    ensures { told_of result ≡ evidence_refusal tables.entry.commands.now tables.entry.lengths.now wide high given }
+    ensures { result_told result ≡ evidence_refusal tables.entry.commands.now tables.entry.lengths.now wide high given }
 {
     refuse(tables, wide, high)?;
     let needed = Evidence::ROOM * (tables.commands.len() / 3);

@@ -1,14 +1,10 @@
 -- Which tables are refused: 17 and then 18, in the order tested, with the place. Numbers that a kind does not use are not looked at (R66, R70, R71).
-use Rattle.std.specs.Prelude.{Bool, false, cond, not, ◌&&◌, ◌||◌, List, ℕ, zero, suc, ◌/◌, ◌%◌, eqb, leb, ltb, length, Option, Some, None, Result, Ok, Err}
+use Rattle.std.specs.Prelude.{Bool, false, cond, not, ◌&&◌, ◌||◌, List, ℕ, zero, suc, ◌/◌, ◌%◌, eqb, leb, ltb, length, Result, Ok, Err}
 use Rattle.tables.specs.Lowest.{lowest}
 use Rattle.kernels.specs.declared.kernel.KernelRefusal.{KernelRefusal}
 use Rattle.kernels.specs.declared.kernel.KernelRefusal.TheVariants.{Malformed, StrayBreak}
 use Rattle.kernels.specs.Limits.{most_statements, most_expressions, most_lanes, cell_count}
 use Rattle.kernels.specs.Rows.{statements, list_of, kind_of, x_of, y_of, z_of, assign_kind, if_kind, while_kind, break_kind, call_kind, return_kind, expressions, expr_kind, expr_x, expr_y, cell_expr, sum_expr, less_expr}
-
--- the lowest number below n that passes a test, if there is one
-unfoldable pub found : (ℕ → Bool) → (n : ℕ) → Option ℕ
-found p n = cond (ltb (lowest p n) n) (Some (lowest p n)) None
 
 -- ---- lists and the rows that have them
 

@@ -1,7 +1,8 @@
 // The rows of both tables, what a statement uses, and searches for rows.
 ghost use Rattle.std.specs.Prelude.{◌≡◌, Bool, ◌||◌, ◌&&◌, ℕ, ◌<◌, eqb};
+ghost use Rattle.tables.specs.Lowest.{found};
 ghost use Rattle.kernels.specs.Rows.{statements, expressions, call_kind, number_of};
-ghost use Rattle.kernels.specs.Refusals.{found, has_list, has_body, missing, is_used_elsewhere};
+ghost use Rattle.kernels.specs.Refusals.{has_list, has_body, missing, is_used_elsewhere};
 ghost use Rattle.kernels.specs.Needs.{statement_row, expression_row};
 
 use crate::kernel::StatementKind;

@@ -12,7 +12,8 @@ ghost use Rattle.machine.specs.Step.{parted, looping, repeating, obey, warp_of};
 use crate::stack::{StackEntry, Stand, drop_rows, push_list, put};
 use kernels::StatementKind;
 use lanes::{Lanes, TokenKind, highest};
-use values::{acting_lanes, at, value};
+use relation::at;
+use values::{acting_lanes, value};
 
 // A row that is obeyed: both tables of the kernel, the row, and the lanes.
 #[derive(Clone, Copy)]
@@ -29,7 +30,7 @@ impl<'a> Obeyed<'a> {
         requires { (self.i < 256) × (k < 5) }
         ensures { result ≡ get_or self.entry.code.now (5 * self.entry.i + k) 0 }
     {
-        at(self.code, 5 * self.i + k)
+        at(self.code, 5 * self.i + k, 0)
     }
 
     // (assign): cell x gets the highest active lane's value of expression y.

@@ -7,7 +7,7 @@ use lib.ListN.{length}
 use Rattle.tables.specs.Limits.{most_rows, most_threads}
 use Rattle.tables.specs.Rows.{rows}
 use Rattle.rules.specs.Rules.{checked}
-use Rattle.verdicts.specs.Verdicts.{told_of, numbered}
+use Rattle.verdicts.specs.Verdicts.{result_told, numbered}
 use Rattle.verdicts.specs.declared.Told.{Told}
 use Rattle.grammar.specs.Grammar.{all_commands, threads}
 use Rattle.notation.specs.Reading.{most_bytes, Reading, answered, rest_at}
@@ -74,10 +74,10 @@ module _ {commands lengths room room' : List ℕ} where
       let K = unwritten_keeps commands lengths (length room) (ap (λ (t : Told). t.number) (sym W.refusal)) in
       omega (arith, W.wrote.long, schedule_few commands lengths, K.few_rows)
 
-  pub written_counted : (r : Result ℕ Refusal) → WritesSchedule commands lengths room room' r → Counted (told_of r) (result_unwrap_or r 0) 0
+  pub written_counted : (r : Result ℕ Refusal) → WritesSchedule commands lengths room room' r → Counted (result_told r) (result_unwrap_or r 0) 0
   unfolding most_rows
   written_counted r W =
-      let l : Placed (told_of r) = rw W.refusal (unwritten_placed commands lengths (length room)) in
+      let l : Placed (result_told r) = rw W.refusal (unwritten_placed commands lengths (length room)) in
       record { place = omega (arith, l.place); also = omega (arith, l.also); third = omega (arith, written_few r W); fourth = omega arith }
 
 -- ---- the reader

@@ -4,7 +4,7 @@ use mathlib.Core.List.{List, ◌++◌}
 use Prim.Native.Nat.{ℕ, ◌-◌, ◌/◌, ◌%◌, ◌^◌, ◌≤◌, ◌<◌, min}
 use native.Mathlib.Omega.{arith}
 use lib.ListN.{length, set, take, length-drop}
-use Rattle.verdicts.specs.Verdicts.{told_of, numbered}
+use Rattle.verdicts.specs.Verdicts.{result_told, numbered}
 use Rattle.verdicts.specs.declared.Told.{Told}
 use Rattle.tables.specs.Over.{over}
 use Rattle.notation.specs.Reading.{Reading, sizes, answered, rest_at, rest_of}
@@ -48,7 +48,7 @@ module _ (commands lengths room answer : List ℕ) where
   schedule_short h = record { refuses = λ _. (refl, refl, refl); wrote = λ l. absurd (omega arith) }
 
   pub schedule_told : (r : Result ℕ Refusal) {room' answer' : List ℕ} {t : Told} → answer_room ≤ length answer
-      → WritesSchedule commands lengths room room' r → t ≡ told_of r → answer' ≡ over (told_numbers t (result_unwrap_or r 0) 0) answer
+      → WritesSchedule commands lengths room room' r → t ≡ result_told r → answer' ≡ over (told_numbers t (result_unwrap_or r 0) 0) answer
       → ProbesSchedule commands lengths room answer room' answer' t.number
   schedule_told r h W e p =
       record {

@@ -6,7 +6,7 @@ use Prim.Native.Nat.{ℕ, ◌<◌}
 use native.Mathlib.Decide.{dec_lt}
 use native.Mathlib.Omega.{arith}
 use lib.ListN.{length}
-use Rattle.verdicts.specs.Verdicts.{told_of}
+use Rattle.verdicts.specs.Verdicts.{result_told}
 use Rattle.relation.specs.Chains.{Chain}
 use Rattle.relation.specs.Table.{Related}
 use Rattle.relation.specs.Bits.{Words}
@@ -53,7 +53,7 @@ probe_schedule_one {commands} {lengths} {room} {answer} A B =
     let (r, R, p, t) = A.wrote (omega arith) in
     let (r', R', p', t') = B.wrote (omega arith) in
     let (e, q) = write_one _ commands lengths room r r' R R' in
-    (p ∙ ap (λ (z : Result ℕ Refusal). (told_of z).number) e ∙ sym p', q, t ∙ ap (λ (z : Result ℕ Refusal). over (written_numbers z) answer) e ∙ sym t'))
+    (p ∙ ap (λ (z : Result ℕ Refusal). (result_told z).number) e ∙ sym p', q, t ∙ ap (λ (z : Result ℕ Refusal). over (written_numbers z) answer) e ∙ sym t'))
 
 pub probe_read_one : {text commands lengths answer ca la aa cb lb ab : List ℕ} {n m : ℕ}
     → ProbesRead text commands lengths answer ca la aa n → ProbesRead text commands lengths answer cb lb ab m → (n ≡ m) × (ca ≡ cb) × (la ≡ lb) × (aa ≡ ab)

@@ -1,7 +1,7 @@
 -- The numbers that an answer room gets, from its first place on (R84).
 use Rattle.std.specs.Prelude.{List, [], ◌∷◌, ◌++◌, ℕ, ◌/◌, ◌%◌, ◌^◌, min, Result, Ok, Err}
 use Rattle.std.specs.Result.{result_unwrap_or}
-use Rattle.verdicts.specs.Verdicts.{tell, told_of, numbered}
+use Rattle.verdicts.specs.Verdicts.{tell, result_told, numbered}
 use Rattle.verdicts.specs.declared.Refusal.{Refusal}
 use Rattle.verdicts.specs.declared.Told.{Told}
 use Rattle.notation.specs.Reading.{Reading, answered, rest_at}
@@ -36,7 +36,7 @@ review_numbers r = told_numbers (numbered r.finding.verdict) r.finding.sheet.tot
 
 -- those of a written schedule: its length stands third, or 0 where it was refused (R84)
 abbrev pub written_numbers : Result ℕ Refusal → List ℕ
-written_numbers r = told_numbers (told_of r) (result_unwrap_or r 0) 0
+written_numbers r = told_numbers (result_told r) (result_unwrap_or r 0) 0
 
 -- Those of a reading of n bytes: then commands, threads, and where the rest begins. In a text of 4 GiB or more, which is refused by 13, that is told as the largest number (R84).
 abbrev pub reading_numbers : Reading → ℕ → List ℕ

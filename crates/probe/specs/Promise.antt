@@ -1,6 +1,6 @@
 -- What the doors promise (R84). Each has one answer only (proofs/Unique). At exit a room has a prime.
 use Rattle.std.specs.Prelude.{◌≡◌, cond, List, ℕ, ◌≤◌, ◌<◌, leb, length, Result}
-use Rattle.verdicts.specs.Verdicts.{told_of}
+use Rattle.verdicts.specs.Verdicts.{result_told}
 use Rattle.verdicts.specs.declared.Refusal.{Refusal}
 use Rattle.relation.specs.Chains.{Chain}
 use Rattle.relation.specs.Table as table
@@ -30,7 +30,7 @@ pub record ProbesReview (commands lengths schedule relation generations evidence
 -- The contract of `probe_schedule` (R84).
 pub record ProbesSchedule (commands lengths room answer room' answer' : List ℕ) (n : ℕ) : Type 0 where
   pub refuses : length answer < answer_room → (n ≡ 14) × (room' ≡ room) × (answer' ≡ answer)
-  pub wrote : answer_room ≤ length answer → (r : Result ℕ Refusal) × WritesSchedule commands lengths room room' r × (n ≡ (told_of r).number) × (answer' ≡ over (written_numbers r) answer)
+  pub wrote : answer_room ≤ length answer → (r : Result ℕ Refusal) × WritesSchedule commands lengths room room' r × (n ≡ (result_told r).number) × (answer' ≡ over (written_numbers r) answer)
 
 -- The contract of `probe_read` (R84).
 pub record ProbesRead (text commands lengths answer commands' lengths' answer' : List ℕ) (n : ℕ) : Type 0 where

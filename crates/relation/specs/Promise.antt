@@ -10,10 +10,6 @@ AnswersTableWords m r = r ≡ words m
 abbrev pub AnswersRelated : (room : List ℕ) (m i j : ℕ) (r : Bool) → Type 0
 AnswersRelated room m i j r = r ≡ related room m i j
 
--- `at` in values: a number by its place, or 0 past the end
-abbrev pub AnswersAt : (numbers : List ℕ) (i r : ℕ) → Type 0
-AnswersAt numbers i r = r ≡ get_or numbers i 0
-
 -- `at`: the item at a place, or another past the end
-abbrev pub AnswersAtOr : {A : Type 0} (items : List A) (i : ℕ) (other r : A) → Type 0
-AnswersAtOr items i other r = r ≡ get_or items i other
+abbrev pub AnswersAt : {A : Type 0} (items : List A) (i : ℕ) (other r : A) → Type 0
+AnswersAt items i other r = r ≡ get_or items i other

@@ -1,7 +1,7 @@
 -- What the doors promise: the judge of a schedule (R81), and the two schedule writers (D1, R24, R25, R62).
 use Rattle.std.specs.Prelude.{◌≡◌, List, ℕ, Result, IfOk, OnOk, OnErr, length}
 use Rattle.tables.specs.Rows.{rows}
-use Rattle.verdicts.specs.Verdicts.{told_of, numbered}
+use Rattle.verdicts.specs.Verdicts.{result_told, numbered}
 use Rattle.verdicts.specs.declared.Refusal.{Refusal}
 use Rattle.relation.specs.Table.{related}
 use Rattle.steps.specs.Going.{played}
@@ -18,7 +18,7 @@ pub record Replays (commands lengths schedule : List ℕ) (r : Judged) : Type 0 
 
 -- A schedule writer: refusals 1 to 4 and the room as it was, or the schedule, which is legal and complete, and its length (D1, R25).
 pub record WritesBy (σ commands lengths before after : List ℕ) (r : Result ℕ Refusal) : Type 0 where
-  pub refusal : told_of r ≡ unwritten commands lengths (length before)
+  pub refusal : result_told r ≡ unwritten commands lengths (length before)
   pub refused : OnErr r (after ≡ before)
   pub wrote : IfOk r (FilledBy σ before after)
   pub complete : OnOk r (Complete commands lengths σ)

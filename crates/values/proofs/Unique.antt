@@ -1,4 +1,4 @@
--- Two answers that meet the contract of a public function for the same inputs are equal; of `at` that is relation's `at_one`. Assumes nothing.
+-- Two answers that meet the contract of a public function for the same inputs are equal. Assumes nothing.
 use Rattle.std.proofs.Common.{◌≡◌, ℕ, List, sym, ◌∙◌}
 use Rattle.warps.specs.Language.{Mem}
 use Rattle.values.specs.Promise.{AnswersValue, AnswersActingLanes}

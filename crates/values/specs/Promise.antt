@@ -1,4 +1,4 @@
--- What each public function promises; for `at` that is relation's `AnswersAt`.
+-- What each public function promises.
 use Rattle.std.specs.Prelude.{◌≡◌, ℕ, List}
 use Rattle.warps.specs.Language.{Mem, eval}
 use Rattle.values.specs.Expressions.{expression, acting}

@@ -6,4 +6,4 @@ mod rows; // the rows one after the other, for one lane
 mod wide; // the same for several lanes at once
 
 pub use acting::acting_lanes;
-pub use rows::{at, value};
+pub use rows::value;

@@ -1,32 +1,22 @@
 // The rows of expressions one after the other, for one lane.
 ghost use Rattle.std.specs.Prelude.{◌≡◌, ℕ, ◌<◌, ◌≤◌, length, if◌then◌else◌, nat_lt, slice_index};
-ghost use Rattle.relation.specs.Promise.{AnswersAt};
 ghost use Rattle.kernels.specs.Limits.{most_expressions};
 ghost use Rattle.kernels.specs.Rows.{sum_expr, expr_kind, expression_number};
 ghost use Rattle.values.specs.Promise.{AnswersValue};
 ghost use Rattle.values.specs.Needs.{value_by, SameValue, row_by};
 
 use kernels::{ExpressionKind, Kernel};
+use relation::at;
 
 // Few rows have a small room, which is sooner empty.
 const FEW: usize = 32;
-
-// The number at a place, or 0 past the end.
-pub fn at(numbers: &[u32], i: usize) -> u32
-    ensures { AnswersAt numbers.now i result }
-{
-    if i < numbers.len() {
-        return numbers[i];
-    }
-    0
-}
 
 // The kind of row i. A number past the kinds is a less-than.
 pub(crate) fn kind_at(expressions: &[u32], i: usize) -> ExpressionKind
     requires { i < most_expressions }
     ensures { SameValue (expression_number result) (expr_kind expressions.now i) }
 {
-    ExpressionKind::of(at(expressions, 3 * i)).unwrap_or(ExpressionKind::Less)
+    ExpressionKind::of(at(expressions, 3 * i, 0)).unwrap_or(ExpressionKind::Less)
 }
 
 // The value of an operand, if it is an earlier row, or 0.
@@ -67,13 +57,13 @@ fn row_value(expressions: &[u32], i: usize, lane: u32, cells: &[u32], values: &[
     ensures { result ≡ row_by expressions.now i lane cells.now values.now }
 {
     let kind = kind_at(expressions, i);
-    let x = at(expressions, 3 * i + 1);
+    let x = at(expressions, 3 * i + 1, 0);
     match kind {
         ExpressionKind::Number | ExpressionKind::Cell | ExpressionKind::Lane => {
-            leaf_value(kind, x, at(cells, x as usize), lane)
+            leaf_value(kind, x, at(cells, x as usize, 0), lane)
         }
         ExpressionKind::Sum | ExpressionKind::Difference | ExpressionKind::Less => {
-            let y = at(expressions, 3 * i + 2);
+            let y = at(expressions, 3 * i + 2, 0);
             pair_value(kind, operand(values, x, i), operand(values, y, i))
         }
     }

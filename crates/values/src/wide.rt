@@ -3,8 +3,9 @@ ghost use Rattle.std.specs.Prelude.{◌≡◌, ℕ, ◌+◌, ◌*◌, ◌^◌, �
 ghost use Rattle.kernels.specs.Rows.{sum_expr, expression_number};
 ghost use Rattle.values.specs.Needs.{strip_of, Strips, StripDone, CanFill, RowDone, Zeroed, Valued};
 
-use crate::rows::{at, kind_at, leaf_value, pair_value};
+use crate::rows::{kind_at, leaf_value, pair_value};
 use kernels::ExpressionKind;
+use relation::at;
 
 // Where the values of operand x of row i begin: those of an earlier row, or else of row i itself, where nothing stands yet.
 fn strip(x: u32, i: usize, count: usize) -> usize
@@ -40,14 +41,14 @@ fn fill_row(expressions: &[u32], i: usize, count: usize, cells: &[u32], values: 
     ensures { RowDone expressions.now i count cells.now values.old values.new }
 {
     let kind = kind_at(expressions, i);
-    let x = at(expressions, 3 * i + 1);
+    let x = at(expressions, 3 * i + 1, 0);
     match kind {
         ExpressionKind::Number | ExpressionKind::Cell | ExpressionKind::Lane => {
-            let held = at(cells, x as usize);
+            let held = at(cells, x as usize, 0);
             fill_leaf(values, kind, x, held, i * count, count);
         }
         ExpressionKind::Sum | ExpressionKind::Difference | ExpressionKind::Less => {
-            let y = at(expressions, 3 * i + 2);
+            let y = at(expressions, 3 * i + 2, 0);
             let a = strip(x, i, count);
             let b = strip(y, i, count);
             fill_pair(values, kind, a, b, i * count, count);

@@ -1,7 +1,0 @@
--- `at` meets its contract, by its test. Assumes nothing.
-use Rattle.std.proofs.Common.{sym}
-use lib.ListN.{get_or-eq_default}
-use Rattle.values.proofs.rows.at.Goals as goal
-
-pub returns : goal.returns
-returns c = sym (get_or-eq_default c.args.numbers.now 0 c.if-i-numbers.false)
