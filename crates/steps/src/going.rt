@@ -83,9 +83,7 @@ fn play(
         let n = at(&state.next, t, 0);
         let wait = at(&state.waits, t, 0);
         let row = thread_row(commands, lengths, t, at(&firsts, t, 0), n, wait);
-        let b = row.barrier;
-        let barrier = state.barriers[b];
-        let made = run_row(row, barrier);
+        let made = run_row(row, &state.barriers);
         let did = made.did;
         let Did::Took(how) = did else {
             return stop(
@@ -103,7 +101,7 @@ fn play(
                 put(&mut generations, c, generation);
             }
         }
-        state.store(t, b, made);
+        state.store(t, made);
         steps = more(steps);
     }
     stop(state, generations, steps, Verdict::Clean)

@@ -48,14 +48,12 @@ impl Replay {
         let n = at(&self.next, t, 0);
         let wait = at(&self.waits, t, 0);
         let row = thread_row(commands, lengths, t, first_row(lengths, t), n, wait);
-        let b = row.barrier;
-        let barrier = self.barriers[b];
-        let made = run_row(row, barrier);
+        let made = run_row(row, &self.barriers);
         let did = made.did;
         if !goes_on(did) {
             return Stepped { after: self, did };
         }
-        self.store(t, b, made);
+        self.store(t, made);
         Stepped { after: self, did }
     }
 }

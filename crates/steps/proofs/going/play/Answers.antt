@@ -24,7 +24,7 @@ returns-in_default c =
     let t = get_or a.entries.now c.loop-entry.entry-index 0 in
     let F =
     found a.commands.now a.lengths.now c.loop-entry.state t c.at.result _ _ _ _ (λ l. c.at.ensures ∙ c.first_rows-firsts.ensures.each t l)
-    c.at-n.ensures c.at-wait.ensures c.thread_row-row.ensures.0 c.run_row-made.ensures in
+    c.at-n.ensures c.at-wait.ensures c.thread_row-row.ensures c.run_row-made.ensures in
     c.stop.ensures ∙ at_refused _ _ _ _ c.loop-entry.invariant.2 c.loop-entry-test.true F c.in_default.is
 
 pub returns-in-Mismatch : goal.returns-in-Mismatch
@@ -33,7 +33,7 @@ returns-in-Mismatch c =
     let t = get_or a.entries.now c.loop-entry.entry-index 0 in
     let F =
     found a.commands.now a.lengths.now c.loop-entry.state t c.at.result _ _ _ _ (λ l. c.at.ensures ∙ c.first_rows-firsts.ensures.each t l)
-    c.at-n.ensures c.at-wait.ensures c.thread_row-row.ensures.0 c.run_row-made.ensures in
+    c.at-n.ensures c.at-wait.ensures c.thread_row-row.ensures c.run_row-made.ensures in
     c.stop-in-Mismatch.ensures ∙ at_mismatch _ _ _ _ c.loop-entry.invariant.2 c.loop-entry-test.true F c.in-Took.is c.in-Mismatch.is
 
 pub slice_bounds-put-end : goal.slice_bounds-put-end
@@ -49,11 +49,11 @@ store-requires c =
     let t = get_or a.entries.now c.loop-entry.entry-index 0 in
     let F =
     found a.commands.now a.lengths.now c.loop-entry.state t c.at.result _ _ _ _ (λ l. c.at.ensures ∙ c.first_rows-firsts.ensures.each t l)
-    c.at-n.ensures c.at-wait.ensures c.thread_row-row.ensures.0 c.run_row-made.ensures in
+    c.at-n.ensures c.at-wait.ensures c.thread_row-row.ensures c.run_row-made.ensures in
     let goes = ran_goes _ _ _ _ c.loop-entry.invariant.2 c.loop-entry-test.true F c.in-Took.is c.in-Ran.is in
     record {
       thread = found_thread F goes;
-      barrier = c.thread_row-row.ensures.1;
+      barrier = F.known;
       counts = omega (arith, found_next F goes, c.type_inv.lengths t);
     }
 
@@ -64,7 +64,7 @@ loop-entry-preserved c =
     let t = get_or a.entries.now c.loop-entry.entry-index 0 in
     let F =
     found a.commands.now a.lengths.now c.loop-entry.state t c.at.result _ _ _ _ (λ l. c.at.ensures ∙ c.first_rows-firsts.ensures.each t l)
-    c.at-n.ensures c.at-wait.ensures c.thread_row-row.ensures.0 c.run_row-made.ensures in (
+    c.at-n.ensures c.at-wait.ensures c.thread_row-row.ensures c.run_row-made.ensures in (
       search rules,
       search rules,
       at_more _ _ _ _ c.loop-entry.invariant.2 c.loop-entry-test.true F c.in-Took.is c.in-Ran.is

@@ -18,7 +18,7 @@ returns-then-not-goes_on c =
     let a = c.args in
     let F =
     found a.commands.now a.lengths.now a.self a.t c.first_row.result _ _ _ _ (λ l. c.first_row.ensures ∙ first_within a.lengths.now a.t (omega arith))
-    c.at-n.ensures c.at-wait.ensures c.thread_row-row.ensures.0 c.run_row-made.ensures in
+    c.at-n.ensures c.at-wait.ensures c.thread_row-row.ensures c.run_row-made.ensures in
     answers_kept F (sym c.goes_on.ensures ∙ c.if-not-goes_on.true)
 
 pub store-requires : goal.store-requires
@@ -26,11 +26,11 @@ store-requires c =
     let a = c.args in
     let F =
     found a.commands.now a.lengths.now a.self a.t c.first_row.result _ _ _ _ (λ l. c.first_row.ensures ∙ first_within a.lengths.now a.t (omega arith))
-    c.at-n.ensures c.at-wait.ensures c.thread_row-row.ensures.0 c.run_row-made.ensures in
+    c.at-n.ensures c.at-wait.ensures c.thread_row-row.ensures c.run_row-made.ensures in
     let goes = sym c.goes_on.ensures ∙ c.if-not-goes_on.false in
     record {
       thread = found_thread F goes;
-      barrier = c.thread_row-row.ensures.1;
+      barrier = F.known;
       counts = omega (arith, found_next F goes, c.type_inv.lengths a.t);
     }
 
@@ -39,6 +39,6 @@ returns c =
     let a = c.args in
     let F =
     found a.commands.now a.lengths.now a.self a.t c.first_row.result _ _ _ _ (λ l. c.first_row.ensures ∙ first_within a.lengths.now a.t (omega arith))
-    c.at-n.ensures c.at-wait.ensures c.thread_row-row.ensures.0 c.run_row-made.ensures in
+    c.at-n.ensures c.at-wait.ensures c.thread_row-row.ensures c.run_row-made.ensures in
     answers_on F (sym c.goes_on.ensures ∙ c.if-not-goes_on.false)
     c.store.ensures
