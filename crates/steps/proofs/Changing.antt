@@ -30,7 +30,7 @@ use Rattle.barriers.specs.Barrier.{unset, registration}
 use Rattle.steps.specs.State.{ran_so_far, waiting, barrier_at}
 use Rattle.steps.specs.Step.{enters, allowed, command, meeting, registering, running, stepped}
 use Rattle.steps.specs.Writing.{does_go_on}
-use Rattle.steps.specs.Needs.{row_at, row_of_thread, KnownRow, changing, entering, changed, KnownChange, applied}
+use Rattle.steps.specs.Needs.{row_at, row_of_thread, KnownRow, changing, entering, changed, KnownChange, step_change, applied}
 
 set_none : (waits : List ℕ) (t : ℕ) → get_or waits t 0 ≡ 0 → set waits t 0 ≡ waits
 set_none waits t e = ap (set waits t) (sym e) ∙ set-get_or waits t 0
@@ -123,38 +123,31 @@ module _ (commands lengths : List ℕ) (s : Replay) (t : ℕ) where
       let (f, g) = both (has_any_left lengths t (ran_so_far s t)) _ e in
       record { left = left_so lengths t (ran_so_far s t) f; free = eqb-true _ _ g }
 
-  -- its row, and what it changes
-  abbrev pub step_row : Row
-  step_row = row_of_thread commands lengths t (first_row lengths t) (ran_so_far s t) (waiting s t)
-
-  abbrev pub step_change : Change
-  step_change = changed step_row s.barriers
-
   -- where it is not allowed
-  not_allowed : allowed lengths s t ≡ false → does_go_on step_change.did ≡ false
+  not_allowed : allowed lengths s t ≡ false → does_go_on (step_change commands lengths s t).did ≡ false
   unfolding allowed may_step row_of_thread
   not_allowed e = rw e
 
-  goes_so : does_go_on step_change.did ≡ true → allowed lengths s t ≡ true
+  goes_so : does_go_on (step_change commands lengths s t).did ≡ true → allowed lengths s t ≡ true
   goes_so g = ⊎_elim (λ e. e) (λ (e : allowed lengths s t ≡ false). clashing g (not_allowed e)) (split (allowed lengths s t))
 
-  pub goes_allowed : does_go_on step_change.did ≡ true → May
+  pub goes_allowed : does_go_on (step_change commands lengths s t).did ≡ true → May
   goes_allowed g = may (goes_so g)
 
-  pub step_did : (stepped commands lengths s t).did ≡ step_change.did
+  pub step_did : (stepped commands lengths s t).did ≡ (step_change commands lengths s t).did
   unfolding stepped allowed may_step row_of_thread
   step_did =
       ⊎_elim (λ (e : has_any_left lengths t (ran_so_far s t) && eqb (waiting s t) 0 ≡ true). rw e (run_did commands s t (command lengths s t)))
       (λ (e : has_any_left lengths t (ran_so_far s t) && eqb (waiting s t) 0 ≡ false). rw e) (split (has_any_left lengths t (ran_so_far s t) && eqb (waiting s t) 0))
 
-  pub step_kept : does_go_on step_change.did ≡ false → (stepped commands lengths s t).after ≡ s
+  pub step_kept : does_go_on (step_change commands lengths s t).did ≡ false → (stepped commands lengths s t).after ≡ s
   unfolding stepped allowed may_step row_of_thread
   step_kept f =
       ⊎_elim
       (λ (e : has_any_left lengths t (ran_so_far s t) && eqb (waiting s t) 0 ≡ true). rw e (run_kept commands s t (command lengths s t) (rw e at f)))
       (λ (e : has_any_left lengths t (ran_so_far s t) && eqb (waiting s t) 0 ≡ false). rw e) (split (has_any_left lengths t (ran_so_far s t) && eqb (waiting s t) 0))
 
-  pub step_after : does_go_on step_change.did ≡ true → (stepped commands lengths s t).after ≡ applied s t step_change
+  pub step_after : does_go_on (step_change commands lengths s t).did ≡ true → (stepped commands lengths s t).after ≡ applied s t (step_change commands lengths s t)
   unfolding stepped allowed may_step row_of_thread
   step_after g =
       let m = goes_allowed g in
@@ -171,5 +164,5 @@ module _ (commands lengths : List ℕ) (s : Replay) (t : ℕ) where
 
   -- what is found so is the step's change
   pub change_is : {first n wait : ℕ} {row : Row} {made : Change} → (t < most_threads → first ≡ first_row lengths t) → n ≡ ran_so_far s t → wait ≡ waiting s t
-      → row ≡ row_of_thread commands lengths t first n wait → made ≡ changed row s.barriers → made ≡ step_change
+      → row ≡ row_of_thread commands lengths t first n wait → made ≡ changed row s.barriers → made ≡ step_change commands lengths s t
   change_is {first} {n} {wait} begins ne we re me = me ∙ ap (λ (r : Row). changed r s.barriers) (re ∙ row_first begins n wait ∙ rw (ne, we))

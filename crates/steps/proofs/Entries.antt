@@ -24,8 +24,8 @@ use Rattle.steps.specs.Claims.{GoOnJoined, StaysEnded}
 use Rattle.steps.specs.Step.{stepped}
 use Rattle.steps.specs.Going.{standing, went_on, one_step_on, go_on}
 use Rattle.steps.specs.Writing.{does_go_on}
-use Rattle.steps.specs.Needs.{applied}
-use Rattle.steps.proofs.Stepping.{Found, found_did, found_kept, found_after}
+use Rattle.steps.specs.Needs.{Found, applied}
+use Rattle.steps.proofs.Stepping.{found_did, found_kept, found_after}
 
 module _ (commands lengths : List ℕ) where
   pub go_on_joined : GoOnJoined commands lengths

@@ -26,13 +26,8 @@ use Rattle.steps.specs.State.{ran_so_far, waiting}
 use Rattle.steps.specs.Claims.{CountOne}
 use Rattle.steps.specs.Step.{registering, stepped}
 use Rattle.steps.specs.Writing.{does_go_on}
-use Rattle.steps.specs.Needs.{row_of_thread, KnownRow, changed, KnownChange, applied, FirstRows}
-use Rattle.steps.proofs.Changing.{May, step_change, goes_allowed, step_did, step_kept, step_after, change_is, known_change}
-
--- The change of thread t's step is found.
-pub record Found (commands lengths : List ℕ) (s : Replay) (t : ℕ) (made : Change) : Type 0 where
-  pub change_is : made ≡ step_change commands lengths s t
-  pub known : KnownChange made
+use Rattle.steps.specs.Needs.{row_of_thread, KnownRow, changed, step_change, Found, applied, FirstRows}
+use Rattle.steps.proofs.Changing.{May, goes_allowed, step_did, step_kept, step_after, change_is, known_change}
 
 module _ {commands lengths : List ℕ} {s : Replay} {t : ℕ} {made : Change} (F : Found commands lengths s t made) where
   goes_is : {b : Bool} → does_go_on made.did ≡ b → does_go_on (step_change commands lengths s t).did ≡ b

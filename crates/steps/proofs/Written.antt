@@ -24,8 +24,8 @@ use Rattle.steps.specs.declared.state.Replay.{Replay}
 use Rattle.steps.specs.State.{ran_so_far}
 use Rattle.steps.specs.Step.{allowed, stepped}
 use Rattle.steps.specs.Writing.{does_go_on, stepping, picked, picked_first, writes, FilledBy}
-use Rattle.steps.specs.Needs.{applied}
-use Rattle.steps.proofs.Stepping.{Found, found_did, found_after}
+use Rattle.steps.specs.Needs.{Found, applied}
+use Rattle.steps.proofs.Stepping.{found_did, found_after}
 use Rattle.steps.proofs.Filled.{filled_by}
 
 module _ (early : List Bool) (commands lengths before : List ℕ) (from : Replay) where

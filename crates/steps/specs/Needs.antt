@@ -20,7 +20,7 @@ use Rattle.steps.specs.declared.step.Did.TheVariants as did
 use Rattle.steps.specs.declared.step.Did.TheVariants.{Took}
 use Rattle.barriers.specs.Counting.{counted}
 use Rattle.barriers.specs.Barrier.{unset, registration}
-use Rattle.steps.specs.State.{ran_so_far}
+use Rattle.steps.specs.State.{ran_so_far, waiting}
 use Rattle.steps.specs.Step.{enters}
 use Rattle.steps.specs.Writing.{picked}
 
@@ -72,6 +72,19 @@ changed (Enters e) bs = entering e (get_or bs e.barrier (unset 0))
 -- the barrier that a change enters, if any, is there
 abbrev pub KnownChange : Change → Type 0
 KnownChange d = IfSome d.entered (λ (x : Entered). x.barrier < barriers)
+
+module _ (commands lengths : List ℕ) (s : Replay) (t : ℕ) where
+  -- the row of thread t's step, and what it changes
+  abbrev pub step_row : Row
+  step_row = row_of_thread commands lengths t (first_row lengths t) (ran_so_far s t) (waiting s t)
+
+  abbrev pub step_change : Change
+  step_change = changed step_row s.barriers
+
+  -- it is found
+  pub record Found (made : Change) : Type 0 where
+    pub change_is : made ≡ step_change
+    pub known : KnownChange made
 
 -- the barriers, where that one was entered
 abbrev pub placed : Option Entered → List Barrier → List Barrier

@@ -4,9 +4,7 @@ ghost use Rattle.turns.proofs.Kept.{LookedBelow};
 ghost use Rattle.steps.specs.Needs.{FirstRows};
 ghost use Rattle.steps.specs.Promise.{WritesOn};
 
-use crate::change::run_row;
 use crate::firsts::first_rows;
-use crate::row::thread_row;
 use crate::state::Replay;
 use crate::step::goes_on;
 use relation::at;
@@ -53,10 +51,8 @@ pub fn write_on(
         };
         room[steps] = t as u32;
         let n = state.next[t];
-        let wait = state.waits[t];
         let first = firsts[t];
-        let row = thread_row(commands, lengths, t, first, n, wait);
-        let made = run_row(row, &state.barriers);
+        let made = state.change(commands, lengths, t, first);
         if !goes_on(made.did) {
             return steps + 1;
         }
