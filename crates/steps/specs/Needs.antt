@@ -24,7 +24,7 @@ use Rattle.steps.specs.State.{ran_so_far, waiting}
 use Rattle.steps.specs.Step.{enters}
 use Rattle.steps.specs.Writing.{picked}
 
--- ---- what a step changes: three numbers of the state, and one barrier; each function that makes steps stores just that
+-- ---- what a step changes: three numbers of the state, and at most one barrier; each function that makes steps stores just that
 
 -- row c as a step needs it
 unfoldable pub row_at : List ℕ → ℕ → Row
