@@ -1,4 +1,4 @@
--- One step, from the row and the change that were found, and what each store of it needs. Assumes nothing.
+-- One step, from the change that was found, and what each store of it needs. Assumes nothing.
 use mathlib.Core.Path.{◌≡◌, refl, sym, ap, ◌∙◌}
 use mathlib.Core.Bool.{Bool, true, false}
 use mathlib.Core.List.{List}
