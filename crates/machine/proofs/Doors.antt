@@ -12,6 +12,7 @@ use Rattle.lanes.specs.Words.{call_token, all_of}
 use Rattle.kernels.specs.Limits.{most_statements}
 use Rattle.kernels.specs.Rows.{statements}
 use Rattle.machine.specs.declared.stack.Stand.{Stand}
+use Rattle.machine.specs.declared.stack.Tower.{Tower}
 use Rattle.machine.specs.Entries.{most_entries, stack_room, Entry, token, stack_in, list_over}
 use Rattle.machine.specs.Needs.{CanStep}
 use Rattle.machine.specs.Step.{next_warp, warp_of, workable, StartsWarp, StepsWarp}
@@ -22,12 +23,12 @@ module _ (s room : List ℕ) (height : ℕ) where
   unfolding workable
   works few wide low = rw (le-leb (statements s) most_statements few, le-leb stack_room (length room) wide, le-leb height most_entries low)
 
-  pub roomy : workable s room height ≡ true → CanStep s room height
-  unfolding workable
-  roomy e =
-      let (t, low) = both (leb (statements s) most_statements && leb stack_room (length room)) (leb height most_entries) e in
-      let (few, wide) = both (leb (statements s) most_statements) (leb stack_room (length room)) t in
-      record { few = leb-true _ _ few; wide = leb-true _ _ wide; low = leb-true _ _ low }
+pub roomy : (s : List ℕ) (t : Tower) → workable s t.room.now t.height ≡ true → CanStep s t
+unfolding workable
+roomy s t e =
+    let (w, low) = both (leb (statements s) most_statements && leb stack_room (length t.room.now)) (leb t.height most_entries) e in
+    let (few, wide) = both (leb (statements s) most_statements) (leb stack_room (length t.room.now)) w in
+    record { few = leb-true _ _ few; wide = leb-true _ _ wide; low = leb-true _ _ low }
 
 module _ (s : List ℕ) (lanes : ℕ) (room : List ℕ) (r : Bool) (q : r ≡ workable s room 0) where
   pub started : (room' : List ℕ) (all top : ℕ) → r ≡ true → all ≡ all_of lanes → stack_in room' top ≡ list_over s 0 (token call_token all ∷ stack_in room 0)
