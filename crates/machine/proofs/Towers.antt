@@ -1,15 +1,12 @@
 -- Calls on a stack in its lent room, one after another. Assumes nothing.
-use mathlib.Core.Path.{◌≡◌, refl, ap, ◌∙◌}
-use mathlib.Core.List.{List, ◌∷◌}
-use Prim.Native.Nat.{ℕ, ◌+◌, ◌≤◌}
+use mathlib.Core.Path.{◌≡◌, refl, ◌∙◌}
+use mathlib.Core.List.{List}
+use Prim.Native.Nat.{ℕ, ◌≤◌}
 use native.Mathlib.Omega.{arith}
 use lib.ListN.{length}
-use Rattle.warps.specs.Language.{Mem}
-use Rattle.lanes.specs.declared.Lanes.{Lanes}
 use Rattle.machine.specs.declared.stack.Tower.{Tower}
-use Rattle.machine.specs.Entries.{Entry, stack_in, list_over}
-use Rattle.machine.specs.Needs.{entries, Stays, Holds, Becomes}
-use Rattle.machine.specs.Step.{Warp}
+use Rattle.machine.specs.Entries.{Entry, stack_in}
+use Rattle.machine.specs.Needs.{Stays, Holds}
 
 pub stays_none : (t : Tower) → Stays t t
 stays_none t = record { same = refl; long = refl }
@@ -26,4 +23,3 @@ lowered {t} {u} e h q =
       up = omega arith;
       held = (λ i. stack_in (e i).now u.height) ∙ q;
     }
-

@@ -78,6 +78,7 @@ fn move_on(
                 i,
                 lanes,
             };
+            // the while stays on top
             tower.height += 1;
             row.repeat(tower, cells)
         }

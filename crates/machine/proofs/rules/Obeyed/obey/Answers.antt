@@ -25,4 +25,3 @@ returns-in-Call c = record { stays = c.enter.ensures.stays; is = by_call _ _ _ _
 
 pub returns-in-Return : goal.returns-in-Return
 returns-in-Return c = record { stays = c.drop_rows-in-Return.ensures.stays; is = by_return _ _ _ _ _ (c.of.ensures ∙ ap statement_kind c.number.ensures) c.unwrap_or-kind.ensures _ _ _ _ _ c.in-Return.is c.drop_rows-in-Return.ensures.held c.give_up.ensures }
-
