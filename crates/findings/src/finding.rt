@@ -85,11 +85,7 @@ fn look_over(tables: Tables, generations: &[u32], relation: &[u32]) -> Finding
 }
 
 // Any numbers as tables, as generations, as a table of what reaches what. Only lengths are refused, and the rooms are only read.
-pub fn find_faults(
-    tables: Tables,
-    generations: &[u32],
-    relation: &[u32],
-) -> Finding
+pub fn find_faults(tables: Tables, generations: &[u32], relation: &[u32]) -> Finding
     ensures { Finds tables.entry.commands.now tables.entry.lengths.now generations.now relation.now result }
 {
     if let Err(refusal) = refuse_sizes(tables.commands, relation.len(), generations.len()) {
