@@ -56,15 +56,14 @@ fn row_value(expressions: &[u32], i: usize, lane: u32, cells: &[u32], values: &[
     requires { (i < most_expressions) × (i < length values.now) }
     ensures { result ≡ row_by expressions.now i lane cells.now values.now }
 {
-    let kind = kind_at(expressions, i);
     let x = at(expressions, 3 * i + 1, 0);
-    match kind {
-        ExpressionKind::Number | ExpressionKind::Cell | ExpressionKind::Lane => {
-            leaf_value(kind, x, at(cells, x as usize, 0), lane)
-        }
-        ExpressionKind::Sum | ExpressionKind::Difference | ExpressionKind::Less => {
+    match kind_at(expressions, i) {
+        ExpressionKind::Number => x,
+        ExpressionKind::Cell => at(cells, x as usize, 0),
+        ExpressionKind::Lane => lane,
+        pair => {
             let y = at(expressions, 3 * i + 2, 0);
-            pair_value(kind, operand(values, x, i), operand(values, y, i))
+            pair_value(pair, operand(values, x, i), operand(values, y, i))
         }
     }
 }
