@@ -11,6 +11,14 @@ use relation::at;
 // Few rows have a small room, which is sooner empty.
 const FEW: usize = 32;
 
+// A row with all those before it, and the cells that they read.
+#[derive(Clone, Copy)]
+pub(crate) struct Term<'a> {
+    pub(crate) expressions: &'a [u32],
+    pub(crate) root: usize,
+    pub(crate) cells: &'a [u32],
+}
+
 // The kind of row i. A number past the kinds is a less-than.
 pub(crate) fn kind_at(expressions: &[u32], i: usize) -> ExpressionKind
     requires { i < most_expressions }
@@ -51,44 +59,58 @@ pub(crate) fn pair_value(kind: ExpressionKind, a: u32, b: u32) -> u32
     }
 }
 
-// Row i for a lane, from the values of the rows before it.
-fn row_value(expressions: &[u32], i: usize, lane: u32, cells: &[u32], values: &[u32]) -> u32
-    requires { (i < most_expressions) × (i < length values.now) }
-    ensures { result ≡ row_by expressions.now i lane cells.now values.now }
-{
-    let x = at(expressions, 3 * i + 1, 0);
-    match kind_at(expressions, i) {
-        ExpressionKind::Number => x,
-        ExpressionKind::Cell => at(cells, x as usize, 0),
-        ExpressionKind::Lane => lane,
-        pair => {
-            let y = at(expressions, 3 * i + 2, 0);
-            pair_value(pair, operand(values, x, i), operand(values, y, i))
+impl Term<'_> {
+    // Row i for a lane, from the values of the rows before it.
+    fn row_value(self, i: usize, lane: u32, values: &[u32]) -> u32
+        requires { (i < most_expressions) × (i < length values.now) }
+        ensures { result ≡ row_by self.entry.expressions.now i lane self.entry.cells.now values.now }
+    {
+        let x = at(self.expressions, 3 * i + 1, 0);
+        match kind_at(self.expressions, i) {
+            ExpressionKind::Number => x,
+            ExpressionKind::Cell => at(self.cells, x as usize, 0),
+            ExpressionKind::Lane => lane,
+            pair => {
+                let y = at(self.expressions, 3 * i + 2, 0);
+                pair_value(pair, operand(values, x, i), operand(values, y, i))
+            }
         }
     }
-}
 
-// The value of row `root` for a lane, in a room of N values.
-fn evaluate<const N: usize>(expressions: &[u32], root: usize, lane: u32, cells: &[u32]) -> u32
-    requires { (root < most_expressions) × (root < N) × (N ≤ most_expressions) }
-    ensures { AnswersValue expressions.now root lane cells.now result }
-{
-    let mut values = [0u32; N];
-    for i in 0..root + 1 {
-        values[i] = row_value(expressions, i, lane, cells, &values);
+    // Its value for a lane, in a room of N values.
+    fn evaluate<const N: usize>(self, lane: u32) -> u32
+        requires { (self.root < most_expressions) × (self.root < N) × (N ≤ most_expressions) }
+        ensures { AnswersValue self.entry.expressions.now self.entry.root lane self.entry.cells.now result }
+    {
+        let mut values = [0u32; N];
+        for i in 0..self.root + 1 {
+            values[i] = self.row_value(i, lane, &values);
+        }
+        values[self.root]
     }
-    values[root]
+
+    // Its value for a lane, or 0 past the limit.
+    pub(crate) fn value(self, lane: u32) -> u32
+        ensures { AnswersValue self.entry.expressions.now self.entry.root lane self.entry.cells.now result }
+    {
+        if self.root < FEW {
+            return self.evaluate::<FEW>(lane);
+        }
+        if self.root < Kernel::EXPRESSIONS {
+            return self.evaluate::<{ Kernel::EXPRESSIONS }>(lane);
+        }
+        0
+    }
 }
 
 // The value of row `root` for a lane, or 0 past the limit.
 pub fn value(expressions: &[u32], root: usize, lane: u32, cells: &[u32]) -> u32
     ensures { AnswersValue expressions.now root lane cells.now result }
 {
-    if root < FEW {
-        return evaluate::<FEW>(expressions, root, lane, cells);
-    }
-    if root < Kernel::EXPRESSIONS {
-        return evaluate::<{ Kernel::EXPRESSIONS }>(expressions, root, lane, cells);
-    }
-    0
+    let term = Term {
+        expressions,
+        root,
+        cells,
+    };
+    term.value(lane)
 }
