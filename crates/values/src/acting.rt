@@ -2,9 +2,9 @@
 ghost use Rattle.std.specs.Prelude.{◌≡◌, ◌+◌, ◌*◌, ◌^◌, ◌<◌, ◌≤◌, if◌then◌else◌};
 ghost use Rattle.warps.specs.Language.{test};
 ghost use Rattle.kernels.specs.Limits.{most_expressions};
-ghost use Rattle.values.specs.Expressions.{expression, acting};
+ghost use Rattle.values.specs.Expressions.{acting};
 ghost use Rattle.values.specs.Promise.{AnswersActingLanes};
-ghost use Rattle.values.specs.Needs.{CanFill, Zeroed};
+ghost use Rattle.values.specs.Needs.{meaning, CanFill, Zeroed};
 
 use crate::rows::Term;
 use kernels::Kernel;
@@ -26,7 +26,7 @@ fn lane_count(mask: u32) -> u32
 impl Term<'_> {
     // A mask of one lane, if the row is not 0 for it.
     fn acting_alone(self, lane: u32, mask: u32) -> u32
-        ensures { result ≡ (if test (expression self.entry.expressions.now self.entry.root) lane self.entry.cells.now then mask else 0) }
+        ensures { result ≡ (if test (meaning self.entry) lane self.entry.cells.now then mask else 0) }
     {
         if self.value(lane) != 0 {
             return mask;
@@ -37,7 +37,7 @@ impl Term<'_> {
     // Of the first `count` lanes, those in a mask for which the row is not 0; the room is for the values.
     fn acting_in(self, mask: u32, count: u32, values: &mut [u32]) -> u32
         requires { Zeroed values.old × CanFill values.old self.root count }
-        ensures { result ≡ acting mask (expression self.entry.expressions.now self.entry.root) self.entry.cells.now count }
+        ensures { result ≡ acting mask (meaning self.entry) self.entry.cells.now count }
     {
         self.fill_rows(count as usize, values);
         let from = self.root * (count as usize);
@@ -53,7 +53,7 @@ impl Term<'_> {
     // The same, in a room of N values.
     fn acting_sized<const N: usize>(self, mask: u32, count: u32) -> u32
         requires { ((self.root + 1) * count ≤ N) × (N ≤ 8192) × (self.root < most_expressions) × (count ≤ 32) }
-        ensures { result ≡ acting mask (expression self.entry.expressions.now self.entry.root) self.entry.cells.now count }
+        ensures { result ≡ acting mask (meaning self.entry) self.entry.cells.now count }
     {
         let mut values = [0u32; N];
         self.acting_in(mask, count, &mut values)
@@ -62,7 +62,7 @@ impl Term<'_> {
     // The same, in the smallest room that serves.
     fn acting_several(self, mask: u32, count: u32) -> u32
         requires { (self.root < most_expressions) × (count ≤ 32) }
-        ensures { result ≡ acting mask (expression self.entry.expressions.now self.entry.root) self.entry.cells.now count }
+        ensures { result ≡ acting mask (meaning self.entry) self.entry.cells.now count }
     {
         let needed = (self.root + 1) * (count as usize);
         if needed <= SMALL {

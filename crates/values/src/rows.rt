@@ -1,9 +1,10 @@
 // The rows of expressions one after the other, for one lane.
 ghost use Rattle.std.specs.Prelude.{◌≡◌, ℕ, ◌<◌, ◌≤◌, length, if◌then◌else◌, nat_lt, slice_index};
+ghost use Rattle.warps.specs.Language.{eval};
 ghost use Rattle.kernels.specs.Limits.{most_expressions};
 ghost use Rattle.kernels.specs.Rows.{sum_expr, expr_kind, expression_number};
 ghost use Rattle.values.specs.Promise.{AnswersValue};
-ghost use Rattle.values.specs.Needs.{value_by, SameValue, row_by};
+ghost use Rattle.values.specs.Needs.{meaning, value_by, SameValue, row_by};
 
 use kernels::{ExpressionKind, Kernel};
 use relation::at;
@@ -33,18 +34,6 @@ fn operand(values: &[u32], x: u32, i: usize) -> u32
     ensures { result ≡ (if nat_lt x i then slice_index values.now x else 0) }
 {
     values[..i].get(x as usize).copied().unwrap_or(0)
-}
-
-// A row without operands: the number x, what cell x holds, or the lane's number.
-pub(crate) fn leaf_value(kind: ExpressionKind, x: u32, held: u32, lane: u32) -> u32
-    requires { expression_number kind < sum_expr }
-    ensures { (a b : ℕ) → result ≡ value_by (expression_number kind) x a b held lane }
-{
-    match kind {
-        ExpressionKind::Number => x,
-        ExpressionKind::Cell => held,
-        _ => lane,
-    }
 }
 
 // A row with operands, by their values.
@@ -80,7 +69,7 @@ impl Term<'_> {
     // Its value for a lane, in a room of N values.
     fn evaluate<const N: usize>(self, lane: u32) -> u32
         requires { (self.root < most_expressions) × (self.root < N) × (N ≤ most_expressions) }
-        ensures { AnswersValue self.entry.expressions.now self.entry.root lane self.entry.cells.now result }
+        ensures { result ≡ eval (meaning self.entry) lane self.entry.cells.now }
     {
         let mut values = [0u32; N];
         for i in 0..self.root + 1 {
@@ -91,7 +80,7 @@ impl Term<'_> {
 
     // Its value for a lane, or 0 past the limit.
     pub(crate) fn value(self, lane: u32) -> u32
-        ensures { AnswersValue self.entry.expressions.now self.entry.root lane self.entry.cells.now result }
+        ensures { result ≡ eval (meaning self.entry) lane self.entry.cells.now }
     {
         if self.root < FEW {
             return self.evaluate::<FEW>(lane);

@@ -1,9 +1,9 @@
 // The rows one after the other, for several lanes at once: in a room the values of row i stand from `i * count` on, a number a lane.
 ghost use Rattle.std.specs.Prelude.{◌≡◌, ℕ, ◌+◌, ◌*◌, ◌^◌, ◌<◌, ◌≤◌, length};
 ghost use Rattle.kernels.specs.Rows.{sum_expr, expression_number};
-ghost use Rattle.values.specs.Needs.{strip_of, Strips, StripDone, CanFill, RowDone, Zeroed, Valued};
+ghost use Rattle.values.specs.Needs.{value_by, strip_of, Strips, StripDone, CanFill, RowDone, Zeroed, Valued};
 
-use crate::rows::{Term, kind_at, leaf_value, pair_value};
+use crate::rows::{Term, kind_at, pair_value};
 use kernels::ExpressionKind;
 use relation::at;
 
@@ -15,7 +15,19 @@ fn strip(x: u32, i: usize, count: usize) -> usize
     i.min(x as usize) * count
 }
 
-// A row without operands.
+// A row without operands: the number x, what cell x holds, or the lane's number.
+fn leaf_value(kind: ExpressionKind, x: u32, held: u32, lane: u32) -> u32
+    requires { expression_number kind < sum_expr }
+    ensures { (a b : ℕ) → result ≡ value_by (expression_number kind) x a b held lane }
+{
+    match kind {
+        ExpressionKind::Number => x,
+        ExpressionKind::Cell => held,
+        _ => lane,
+    }
+}
+
+// The same for each lane.
 fn fill_leaf(values: &mut [u32], kind: ExpressionKind, x: u32, held: u32, to: usize, count: usize)
     requires { (expression_number kind < sum_expr) × (to + count ≤ length values.old) × (count ≤ 32) }
     ensures { (a b : ℕ) → StripDone (expression_number kind) x held a b to count values.old values.new }
@@ -60,7 +72,7 @@ impl Term<'_> {
     // All rows, for the first `count` lanes, into a room in which nothing stands.
     pub(crate) fn fill_rows(self, count: usize, values: &mut [u32])
         requires { Zeroed values.old × CanFill values.old self.root count }
-        ensures { Valued self.entry.expressions.now self.entry.root count self.entry.cells.now values.new }
+        ensures { Valued self.entry count values.new }
     {
         for i in 0..self.root + 1 {
             self.fill_row(i, count, values);

@@ -17,4 +17,4 @@ pub loop-i-preserved : goal.loop-i-preserved
 loop-i-preserved c = laid_more _ _ _ _ _ c.loop-i.invariant _ c.fill_row.ensures
 
 pub returns : goal.returns
-returns c = laid_all _ _ _ c.loop-i.invariant (omega arith) c.requires.1
+returns c = laid_all c.args.self c.loop-i.invariant (omega arith) c.requires.1
