@@ -1,4 +1,4 @@
-use mathlib.Core.Path.{◌≡◌, refl, ap, ◌∙◌}
+use mathlib.Core.Path.{◌≡◌, ap, ◌∙◌}
 use Prim.Native.Nat.{◌+◌, ◌-◌}
 use native.Mathlib.Omega.{arith}
 use Rattle.machine.specs.declared.stack.Tower.{Tower}
@@ -6,9 +6,6 @@ use Rattle.machine.specs.Entries.{stack_in}
 use Rattle.machine.proofs.Held.{drop_row, drop_token, drop_none}
 use Rattle.machine.proofs.Towers.{lowered}
 use Rattle.machine.proofs.stack.Tower.drop_rows.Goals as goal
-
-pub loop-i-init : goal.loop-i-init
-loop-i-init c = (refl, refl)
 
 pub returns-then-self-i-ge-TOKENS : goal.returns-then-self-i-ge-TOKENS
 returns-then-self-i-ge-TOKENS c =
