@@ -2,8 +2,8 @@
 use mathlib.Core.Path.{◌≡◌}
 use Prim.Native.Nat.{◌+◌}
 use lib.ListN.{drop}
-use Rattle.spelling.specs.Bytes.{numbered, run}
+use Rattle.spelling.specs.Bytes.{of_class, run}
 use Rattle.spelling.proofs.bytes.run_of.Given as goal
 
 abbrev pub invariant-loop-i : goal.invariant-loop-i
-invariant-loop-i l = l.i + run (numbered l.class) (drop l.i l.bytes) ≡ run (numbered l.class) l.bytes
+invariant-loop-i l = l.i + run (of_class l.class) (drop l.i l.bytes) ≡ run (of_class l.class) l.bytes

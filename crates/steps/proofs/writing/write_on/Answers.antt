@@ -4,7 +4,7 @@ use mathlib.Core.Path.{◌≡◌}
 use lib.ListN.{length}
 use borrow.Author.Rules.{rules}
 use Rattle.tables.specs.Limits.{most_threads}
-use Rattle.tables.proofs.Scans.{below_hit, below_miss}
+use Rattle.tables.proofs.Scans.{if_below_hit, if_below_miss}
 use Rattle.turns.proofs.Kept.{kept_start}
 use Rattle.steps.proofs.Stepping.{found, found_next, found_command}
 use Rattle.steps.proofs.Written.{writing_start, writing_none, writing_last, writing_more, writing_end}
@@ -16,7 +16,7 @@ loop-steps-init c = writing_start _ _ _ _ _ (search rules) (search rules) (kept_
 
 pub returns-in_default : goal.returns-in_default
 returns-in_default c =
-    writing_none _ _ _ _ _ c.loop-steps.invariant (omega (arith, c.loop-steps-test.true)) refl (below_miss (sym c.in_default.is ∙ c.choose.ensures))
+    writing_none _ _ _ _ _ c.loop-steps.invariant (omega (arith, c.loop-steps-test.true)) refl (if_below_miss (sym c.in_default.is ∙ c.choose.ensures))
 
 pub thread_row-row-requires : goal.thread_row-row-requires
 thread_row-row-requires c = c.first_rows-firsts.ensures.small _
@@ -25,7 +25,7 @@ pub returns-then-not-goes_on : goal.returns-then-not-goes_on
 returns-then-not-goes_on c =
     let a = c.args in
     let t = c.in-Some.t in
-    let h = below_hit (sym c.in-Some.is ∙ c.choose.ensures) in
+    let h = if_below_hit (sym c.in-Some.is ∙ c.choose.ensures) in
     let F =
     found a.commands.now a.lengths.now c.loop-steps.state t _ _ _ _ _ (c.first_rows-firsts.ensures.each t) refl refl
     c.thread_row-row.ensures.0 c.run_row-made.ensures in
@@ -35,7 +35,7 @@ pub store-requires : goal.store-requires
 store-requires c =
     let a = c.args in
     let t = c.in-Some.t in
-    let h = below_hit (sym c.in-Some.is ∙ c.choose.ensures) in
+    let h = if_below_hit (sym c.in-Some.is ∙ c.choose.ensures) in
     let F =
     found a.commands.now a.lengths.now c.loop-steps.state t _ _ _ _ _ (c.first_rows-firsts.ensures.each t) refl refl
     c.thread_row-row.ensures.0 c.run_row-made.ensures in
@@ -46,7 +46,7 @@ pub overflow_add-n : goal.overflow_add-n
 overflow_add-n c =
     let a = c.args in
     let t = c.in-Some.t in
-    let h = below_hit (sym c.in-Some.is ∙ c.choose.ensures) in
+    let h = if_below_hit (sym c.in-Some.is ∙ c.choose.ensures) in
     let F =
     found a.commands.now a.lengths.now c.loop-steps.state t _ _ _ _ _ (c.first_rows-firsts.ensures.each t) refl refl
     c.thread_row-row.ensures.0 c.run_row-made.ensures in
@@ -57,7 +57,7 @@ pub overflow_add-row : goal.overflow_add-row
 overflow_add-row c =
     let a = c.args in
     let t = c.in-Some.t in
-    let h = below_hit (sym c.in-Some.is ∙ c.choose.ensures) in
+    let h = if_below_hit (sym c.in-Some.is ∙ c.choose.ensures) in
     let F =
     found a.commands.now a.lengths.now c.loop-steps.state t _ _ _ _ _ (c.first_rows-firsts.ensures.each t) refl refl
     c.thread_row-row.ensures.0 c.run_row-made.ensures in
@@ -70,7 +70,7 @@ pub loop-steps-preserved : goal.loop-steps-preserved
 loop-steps-preserved c =
     let a = c.args in
     let t = c.in-Some.t in
-    let h = below_hit (sym c.in-Some.is ∙ c.choose.ensures) in
+    let h = if_below_hit (sym c.in-Some.is ∙ c.choose.ensures) in
     let F =
     found a.commands.now a.lengths.now c.loop-steps.state t _ _ _ _ _ (c.first_rows-firsts.ensures.each t) refl refl
     c.thread_row-row.ensures.0 c.run_row-made.ensures in
@@ -85,28 +85,28 @@ returns c =
 
 pub overflow_cast-room : goal.overflow_cast-room
 unfolding most_threads
-overflow_cast-room c = omega (arith, (below_hit (sym c.in-Some.is ∙ c.choose.ensures)).0)
+overflow_cast-room c = omega (arith, (if_below_hit (sym c.in-Some.is ∙ c.choose.ensures)).0)
 
 pub offset_bounds-state-t : goal.offset_bounds-state-t
 unfolding most_threads
-offset_bounds-state-t c = omega (arith, (below_hit (sym c.in-Some.is ∙ c.choose.ensures)).0)
+offset_bounds-state-t c = omega (arith, (if_below_hit (sym c.in-Some.is ∙ c.choose.ensures)).0)
 
 pub bounds-state-t : goal.bounds-state-t
 unfolding most_threads
-bounds-state-t c = omega (arith, (below_hit (sym c.in-Some.is ∙ c.choose.ensures)).0)
+bounds-state-t c = omega (arith, (if_below_hit (sym c.in-Some.is ∙ c.choose.ensures)).0)
 
 pub offset_bounds-state-t-in-loop-steps : goal.offset_bounds-state-t-in-loop-steps
 unfolding most_threads
-offset_bounds-state-t-in-loop-steps c = omega (arith, (below_hit (sym c.in-Some.is ∙ c.choose.ensures)).0)
+offset_bounds-state-t-in-loop-steps c = omega (arith, (if_below_hit (sym c.in-Some.is ∙ c.choose.ensures)).0)
 
 pub bounds-state-t-in-loop-steps : goal.bounds-state-t-in-loop-steps
 unfolding most_threads
-bounds-state-t-in-loop-steps c = omega (arith, (below_hit (sym c.in-Some.is ∙ c.choose.ensures)).0)
+bounds-state-t-in-loop-steps c = omega (arith, (if_below_hit (sym c.in-Some.is ∙ c.choose.ensures)).0)
 
 pub offset_bounds-firsts-t : goal.offset_bounds-firsts-t
 unfolding most_threads
-offset_bounds-firsts-t c = omega (arith, (below_hit (sym c.in-Some.is ∙ c.choose.ensures)).0)
+offset_bounds-firsts-t c = omega (arith, (if_below_hit (sym c.in-Some.is ∙ c.choose.ensures)).0)
 
 pub bounds-firsts-t : goal.bounds-firsts-t
 unfolding most_threads
-bounds-firsts-t c = omega (arith, (below_hit (sym c.in-Some.is ∙ c.choose.ensures)).0)
+bounds-firsts-t c = omega (arith, (if_below_hit (sym c.in-Some.is ∙ c.choose.ensures)).0)
