@@ -1,5 +1,6 @@
-// Doors for outside tests and benchmarks, as C calls them: the review, the schedule writer, the reader, the closing of a table and the run of a warp. A slice is a pointer
-// and a length to C. `answer` is a room of at least 36 numbers; a shorter one is answered 14, before all else, and nothing is touched.
+// Doors for outside tests and benchmarks, as C calls them: the review, the schedule writer, the reader, the closing of a table and the run of a warp.
+// A slice is a pointer and a length to C. `answer` is a room of at least 36 numbers; a shorter one is answered 14, before all else, and nothing is touched.
+// The answers stay numbers, 14 among them, for C reads numbers.
 #![tactic(auto)]
 
 ghost use Rattle.probe.specs.Promise.{ProbesReview, ProbesSchedule, ProbesRead, ProbesClose, ProbesWarp};
