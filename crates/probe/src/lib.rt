@@ -109,10 +109,7 @@ pub extern "C" fn probe_read(
 pub extern "C" fn probe_close(relation: &mut [u32], rows: u32) -> u32
     ensures { ProbesClose relation.old rows relation.new result }
 {
-    if close(relation, rows) {
-        return 1;
-    }
-    0
+    u32::from(close(relation, rows))
 }
 
 // 17, 18 or 0. `answer` gets the place and 0, how the run ended and 0, and the number of steps taken, its low half and its high half.
@@ -133,7 +130,7 @@ pub extern "C" fn probe_warp(
     }
     let ran = ran_of(run_kernel(statements, expressions, lanes, cells, steps));
     put_told(answer, ran.told, ran.ending, 0);
-    answer[4] = (ran.taken % 4294967296) as u32;
-    answer[5] = (ran.taken / 4294967296) as u32;
+    answer[4] = (ran.taken % Answer::HALF) as u32;
+    answer[5] = (ran.taken / Answer::HALF) as u32;
     ran.told.number
 }
