@@ -12,7 +12,7 @@ use borrow.Author.Tests.{leb-false, eqb-true, eqb-false, not-false, ne_eqb}
 use Rattle.relation.proofs.Truth.{clashing, both, either, neither}
 use Rattle.tables.proofs.Lowest.{lowest_miss}
 use Rattle.kernels.specs.Rows.{statements, list_of, kind_of, x_of, y_of, z_of, if_kind, while_kind, break_kind, call_kind, expressions}
-use Rattle.kernels.specs.Refusals.{has_body, uses, uses_besides, has_owner, missing, is_used_elsewhere, inside_itself, in_while, is_bad_body, is_bad_if, is_bad_while, is_bad_call, is_bad_statement, is_stray_break}
+use Rattle.kernels.specs.Refusals.{has_body, uses, uses_besides, has_owner, missing, is_used_elsewhere, list_inside, in_while, is_bad_body, is_bad_if, is_bad_while, is_bad_call, is_bad_statement, is_stray_break}
 use Rattle.kernels.proofs.Passed.{Passed}
 
 -- ---- a good statement, by its kind
@@ -30,18 +30,18 @@ module _ (s : List ℕ) (count i : ℕ) (g : is_bad_statement s count i ≡ fals
   unfolding is_bad_statement
   good_call_tests k = rw k at g
 
-  while_facts : is_bad_while s count i (list_of s i) (x_of s i) (y_of s i) ≡ false → (x_of s i < count) × (is_bad_body s i (y_of s i) ≡ false) × (inside_itself s i ≡ false)
-  unfolding is_bad_while inside_itself
+  while_facts : is_bad_while s count i (list_of s i) (x_of s i) (y_of s i) ≡ false → (x_of s i < count) × (is_bad_body s i (y_of s i) ≡ false) × (list_inside s i (list_of s i) ≡ false)
+  unfolding is_bad_while
   while_facts f =
-      let (t₂, inside) = neither _ (inside_itself s i) f in
+      let (t₂, inside) = neither _ (list_inside s i (list_of s i)) f in
       let (x, y) = neither (leb count (x_of s i)) (is_bad_body s i (y_of s i)) t₂ in
       (leb-false _ _ x, y, inside)
 
-  pub good_while : kind_of s i ≡ while_kind → (x_of s i < count) × (is_bad_body s i (y_of s i) ≡ false) × (inside_itself s i ≡ false)
+  pub good_while : kind_of s i ≡ while_kind → (x_of s i < count) × (is_bad_body s i (y_of s i) ≡ false) × (list_inside s i (list_of s i) ≡ false)
   good_while k = while_facts (good_while_tests k)
 
   pub good_if : kind_of s i ≡ if_kind
-      → (x_of s i < count) × ¬ (y_of s i ≡ z_of s i) × (is_bad_body s i (y_of s i) ≡ false) × (is_bad_body s i (z_of s i) ≡ false) × (inside_itself s i ≡ false)
+      → (x_of s i < count) × ¬ (y_of s i ≡ z_of s i) × (is_bad_body s i (y_of s i) ≡ false) × (is_bad_body s i (z_of s i) ≡ false) × (list_inside s i (list_of s i) ≡ false)
   unfolding is_bad_if
   good_if k =
       let (t₂, z) = neither _ (is_bad_body s i (z_of s i)) (good_if_tests k) in

@@ -12,7 +12,7 @@ use Rattle.kernels.specs.declared.kernel.StatementKind.{StatementKind}
 use Rattle.kernels.specs.declared.kernel.StatementKind.TheVariants.{Skip, Assign, If, While, Break, Call, Return}
 use Rattle.kernels.specs.declared.kernel.ExpressionKind.{ExpressionKind}
 use Rattle.kernels.specs.declared.kernel.ExpressionKind.TheVariants.{Number, Cell, Lane, Sum, Difference, Less}
-use Rattle.kernels.specs.Rows.{number_of, statement_kind, expression_number, expression_kind}
+use Rattle.kernels.specs.Rows.{statement_number, statement_kind, expression_number, expression_kind}
 
 -- a chain of tests: where none of its numbers is met, the rest is asked
 module _ {X : Type 0} (f : X → ℕ) (n : ℕ) where
@@ -35,21 +35,21 @@ module _ {X : Type 0} (f : X → ℕ) (n : ℕ) where
   unfolding Right
   none k q = absurd (let z : ◌≡◌ {A = ℕ} 0 1 = cc in omega arith)
 
-pub kind_is : (n : ℕ) (k : StatementKind) → statement_kind n ≡ Some k → n ≡ number_of k
+pub kind_is : (n : ℕ) (k : StatementKind) → statement_kind n ≡ Some k → n ≡ statement_number k
 unfolding statement_kind Right
 kind_is n =
-    one number_of n 0 Skip _ refl (one number_of n 1 Assign _ refl (one number_of n 2 If _ refl (one number_of n 3 While _ refl (one number_of n 4 Break _ refl (one number_of n 5 Call _ refl (one number_of n 6 Return _ refl (none number_of n)))))))
+    one statement_number n 0 Skip _ refl (one statement_number n 1 Assign _ refl (one statement_number n 2 If _ refl (one statement_number n 3 While _ refl (one statement_number n 4 Break _ refl (one statement_number n 5 Call _ refl (one statement_number n 6 Return _ refl (none statement_number n)))))))
 
 pub no_statement : (n : ℕ) → statement_kind n ≡ None → 6 < n
 unfolding statement_kind
 no_statement n e =
-    let (n₀, e₁) = past number_of n 0 Skip _ e in
-    let (n₁, e₂) = past number_of n 1 Assign _ e₁ in
-    let (n₂, e₃) = past number_of n 2 If _ e₂ in
-    let (n₃, e₄) = past number_of n 3 While _ e₃ in
-    let (n₄, e₅) = past number_of n 4 Break _ e₄ in
-    let (n₅, e₆) = past number_of n 5 Call _ e₅ in
-    let (n₆, e₇) = past number_of n 6 Return _ e₆ in
+    let (n₀, e₁) = past statement_number n 0 Skip _ e in
+    let (n₁, e₂) = past statement_number n 1 Assign _ e₁ in
+    let (n₂, e₃) = past statement_number n 2 If _ e₂ in
+    let (n₃, e₄) = past statement_number n 3 While _ e₃ in
+    let (n₄, e₅) = past statement_number n 4 Break _ e₄ in
+    let (n₅, e₆) = past statement_number n 5 Call _ e₅ in
+    let (n₆, e₇) = past statement_number n 6 Return _ e₆ in
     omega arith
 
 pub expression_is : (n : ℕ) (k : ExpressionKind) → expression_kind n ≡ Some k → n ≡ expression_number k

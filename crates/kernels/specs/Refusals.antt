@@ -51,13 +51,9 @@ unfoldable pub meets_upwards : List ℕ → (p : ℕ → Bool) → (n b : ℕ) �
 meets_upwards s p zero b = false
 meets_upwards s p (suc n) b = has_owner s b && (p (owner s b) || meets_upwards s p n (list_of s (owner s b)))
 
--- list b lies inside an arm or a body of row i
+-- list b lies inside an arm or a body of row i; where it is the row's own list, the row lies inside itself (R70)
 abbrev pub list_inside : List ℕ → (i b : ℕ) → Bool
 list_inside s i b = meets_upwards s (eqb i) (statements s) b
-
--- row i lies inside its own arm or body (R70)
-unfoldable pub inside_itself : List ℕ → (i : ℕ) → Bool
-inside_itself s i = list_inside s i (list_of s i)
 
 -- row j is a while
 unfoldable pub is_while : List ℕ → (j : ℕ) → Bool

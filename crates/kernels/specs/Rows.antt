@@ -62,14 +62,14 @@ statement_kind n =
     (cond (eqb n while_kind) (Some While) (cond (eqb n break_kind) (Some Break) (cond (eqb n call_kind) (Some Call) (cond (eqb n return_kind) (Some Return) None))))))
 
 -- the number of a kind (R66)
-abbrev pub number_of : StatementKind → ℕ
-number_of Skip = skip_kind
-number_of Assign = assign_kind
-number_of If = if_kind
-number_of While = while_kind
-number_of Break = break_kind
-number_of Call = call_kind
-number_of Return = return_kind
+abbrev pub statement_number : StatementKind → ℕ
+statement_number Skip = skip_kind
+statement_number Assign = assign_kind
+statement_number If = if_kind
+statement_number While = while_kind
+statement_number Break = break_kind
+statement_number Call = call_kind
+statement_number Return = return_kind
 
 -- how many expressions there are
 abbrev pub expressions : List ℕ → ℕ

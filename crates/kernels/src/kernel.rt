@@ -1,4 +1,4 @@
-// The limits of a kernel's tables, and the kinds of their rows by number (R66 to R68). Each is named here once; the definitions hold them to the numbers of the rules.
+// The limits of a kernel's tables, and the kinds of their rows by number (R66 to R68). Each is named here once; the definitions hold them to the rules.
 ghost use Rattle.kernels.specs.Promise.{AnswersStatementKind, AnswersExpressionKind, AnswersRefusalNumber, AnswersRefusalPlace};
 
 #[derive(Clone, Copy)]
@@ -29,6 +29,7 @@ pub enum StatementKind {
 
 impl StatementKind {
     // The kind that a number stands for, if there is one.
+    // No TryFrom: an Option needs no error type, and the contract has a name.
     #[tactic(auto, unfolding(crate::specs::Rows::statement_kind))]
     pub fn of(number: u32) -> Option<Self>
         ensures { AnswersStatementKind number result }

@@ -1,29 +1,30 @@
 // The rows of both tables, what a statement uses, and searches for rows.
 ghost use Rattle.std.specs.Prelude.{◌≡◌, Bool, ◌||◌, ◌&&◌, ℕ, ◌<◌, eqb};
 ghost use Rattle.tables.specs.Lowest.{found};
-ghost use Rattle.kernels.specs.Rows.{statements, expressions, call_kind, number_of};
+ghost use Rattle.kernels.specs.Rows.{statements, expressions, call_kind, statement_number};
 ghost use Rattle.kernels.specs.Refusals.{has_list, has_body, missing, is_used_elsewhere};
 ghost use Rattle.kernels.specs.Needs.{statement_row, expression_row};
 
 use crate::kernel::StatementKind;
 
-// The tables stay rows of numbers, as C lends them to `probe_warp`; a row is read once.
+// The tables stay rows of numbers, as C lends them to `probe_warp`: `at` makes a struct of a row where one is looked at.
+
 // The numbers of a statement: the list that it lies in, its kind, and what its kind uses.
 #[derive(Clone, Copy)]
 pub(crate) struct Statement {
-    pub list: u32,
-    pub kind: u32,
-    pub x: u32,
-    pub y: u32,
-    pub z: u32,
+    pub(crate) list: u32,
+    pub(crate) kind: u32,
+    pub(crate) x: u32,
+    pub(crate) y: u32,
+    pub(crate) z: u32,
 }
 
 // Those of an expression.
 #[derive(Clone, Copy)]
 pub(crate) struct Expression {
-    pub kind: u32,
-    pub x: u32,
-    pub y: u32,
+    pub(crate) kind: u32,
+    pub(crate) x: u32,
+    pub(crate) y: u32,
 }
 
 impl Statement {
@@ -43,7 +44,7 @@ impl Statement {
 
     // Is it of this kind?
     pub(crate) fn is(self, kind: StatementKind) -> bool
-        ensures { result ≡ eqb self.kind (number_of kind) }
+        ensures { result ≡ eqb self.kind (statement_number kind) }
     {
         self.kind == kind as u32
     }
@@ -78,7 +79,7 @@ impl Expression {
     }
 }
 
-// The first number below n that passes a test.
+// The first number below n that passes a test. It is the crate's own: a test that is passed needs a `requires`, and a public function has none.
 pub(crate) fn first<F: Fn(usize) -> bool>(n: usize, test: F) -> Option<usize>
     requires { (i : ℕ) → i < n → F.pre test i }
     ensures { (p : ℕ → Bool) → ((i : ℕ) (r : Bool) → i < n → F.post test i r → r ≡ p i) → result ≡ found p n }

@@ -1,7 +1,7 @@
 // Refusal 17 of a statement, in a kernel of so many expressions, and refusal 18.
-ghost use Rattle.std.specs.Prelude.{◌≡◌, ◌&&◌, not, eqb};
+ghost use Rattle.std.specs.Prelude.{◌≡◌};
 ghost use Rattle.tables.specs.Lowest.{found};
-ghost use Rattle.kernels.specs.Rows.{statements, break_kind};
+ghost use Rattle.kernels.specs.Rows.{statements};
 ghost use Rattle.kernels.specs.Refusals.{is_bad_body, is_bad_assignment, is_bad_while, is_bad_if, is_bad_call, is_bad_by, is_bad_statement, is_stray_by, is_stray_break};
 
 use crate::kernel::{Kernel, StatementKind};

@@ -54,7 +54,7 @@ impl Lanes {
         }
     }
 
-    // A token comes off the stack. A number past the types is a call.
+    // A token comes off the stack. A number past the types is a call. The type stays a number: `AnswersWake` and `wake_one` answer for any.
     pub fn wake(self, kind: u32, mask: u32) -> Self
         ensures { AnswersWake self kind mask result }
     {
@@ -115,7 +115,7 @@ impl Lanes {
     }
 }
 
-// The highest lane of a mask, or 0.
+// The highest lane of a mask. No Option: for an empty mask `AnswersHighest` says 0, as for lane 0.
 pub fn highest(mask: u32) -> u32
     ensures { AnswersHighest mask result }
 {

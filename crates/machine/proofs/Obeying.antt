@@ -15,7 +15,7 @@ use Rattle.std.specs.Prelude.{Option, Some, None}
 use Rattle.std.specs.Option.{unwrap_or}
 use Rattle.kernels.specs.declared.kernel.StatementKind.{StatementKind}
 use Rattle.kernels.specs.declared.kernel.StatementKind.TheVariants.{Skip, Assign, If, While, Break, Call, Return}
-use Rattle.kernels.specs.Rows.{number_of, statement_kind}
+use Rattle.kernels.specs.Rows.{statement_number, statement_kind}
 use Rattle.kernels.proofs.Numbers.{kind_is, no_statement}
 use Rattle.machine.specs.declared.stack.StackEntry.{StackEntry}
 use Rattle.machine.specs.declared.stack.StackEntry.TheVariants.{Row, Again, Token}
@@ -34,19 +34,19 @@ same p q r = λ j. record { stack = p j; lanes = q j; cells = r j }
 
 -- ---- a statement, by its kind: as the code comes to it, a number past the kinds is a return
 module _ (s e : List ℕ) (i : ℕ) (r : Option StatementKind) (k : StatementKind) (er : r ≡ statement_kind (kind_of s i)) (ek : k ≡ unwrap_or r Return) where
-  kind_number : (m : StatementKind) → k ≡ m → (m ≡ Return → ⊥) → kind_of s i ≡ number_of m
+  kind_number : (m : StatementKind) → k ≡ m → (m ≡ Return → ⊥) → kind_of s i ≡ statement_number m
   kind_number m q n = go r er (sym ek ∙ q)
     where
-      go : (r : Option StatementKind) → r ≡ statement_kind (kind_of s i) → unwrap_or r Return ≡ m → kind_of s i ≡ number_of m
+      go : (r : Option StatementKind) → r ≡ statement_kind (kind_of s i) → unwrap_or r Return ≡ m → kind_of s i ≡ statement_number m
       go None u v = absurd (n (sym v))
-      go (Some j) u v = kind_is _ j (sym u) ∙ ap number_of v
+      go (Some j) u v = kind_is _ j (sym u) ∙ ap statement_number v
 
   last_kind : k ≡ Return → 5 < kind_of s i
   last_kind q = go r er (sym ek ∙ q)
     where
       go : (r : Option StatementKind) → r ≡ statement_kind (kind_of s i) → unwrap_or r Return ≡ Return → 5 < kind_of s i
       go None u v = omega (arith, no_statement _ (sym u))
-      go (Some j) u v = let z : kind_of s i ≡ 6 = kind_is _ j (sym u) ∙ ap number_of v in omega arith
+      go (Some j) u v = let z : kind_of s i ≡ 6 = kind_is _ j (sym u) ∙ ap statement_number v in omega arith
 
   module _ (W : List Entry) (L : Lanes) (μ : Mem) where
     pub by_skip : k ≡ Skip → warp W L μ ≡ obey s e i W L μ

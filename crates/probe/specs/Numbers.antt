@@ -38,7 +38,8 @@ review_numbers r = told_numbers (numbered r.finding.verdict) r.finding.sheet.tot
 abbrev pub written_numbers : Result ℕ Refusal → List ℕ
 written_numbers r = told_numbers (result_told r) (result_unwrap_or r 0) 0
 
--- Those of a reading of n bytes: then commands, threads, and where the rest begins. In a text of 4 GiB or more, which is refused by 13, that is told as the largest number (R84).
+-- Those of a reading of n bytes: then commands, threads, and where the rest begins.
+-- In a text of 4 GiB or more, which is refused by 13, that is told as the largest number (R84).
 abbrev pub reading_numbers : Reading → ℕ → List ℕ
 reading_numbers r n = told_numbers (answered r).told (answered r).command_count (answered r).thread_count ++ min (rest_at r n) largest ∷ []
 

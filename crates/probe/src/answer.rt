@@ -15,16 +15,15 @@ impl Answer {
     pub(crate) const NUMBERS: usize = 36;
     // the largest number that one of its places holds
     pub(crate) const LARGEST: usize = 4294967295;
+    // and each half of a number of 64 bits is below this
+    pub(crate) const HALF: u64 = 4294967296;
 }
 
 // A number as an answer room holds it. Only the offset in a text of 4 GiB or more, which is refused by 13, is larger: it is told as the largest number.
 pub(crate) fn capped(n: usize) -> u32
     ensures { result ≡ min n largest }
 {
-    if n < Answer::LARGEST {
-        return n as u32;
-    }
-    Answer::LARGEST as u32
+    n.min(Answer::LARGEST) as u32
 }
 
 // A verdict's two places, and two numbers more, in the first four places.
@@ -43,11 +42,8 @@ pub(crate) fn put_sheet(answer: &mut [u32], sheet: Sheet)
     requires { (answer_room ≤ length answer.old) × PairsCounted sheet.pairs }
     ensures { answer.new ≡ over (take 4 answer.old ++ pair_numbers sheet.pairs) answer.old }
 {
-    let mut i = 0;
-    while i < Sheet::KEPT {
-        let pair = sheet.pairs[i];
+    for (i, pair) in sheet.pairs.iter().enumerate() {
         answer[4 + i * 2] = pair.first as u32;
         answer[5 + i * 2] = pair.second as u32;
-        i += 1;
     }
 }

@@ -1,5 +1,6 @@
-// Doors for outside tests and benchmarks, as C calls them: the review, the schedule writer, the reader, the closing of a table and the run of a warp. A slice is a pointer
-// and a length to C. `answer` is a room of at least 36 numbers; a shorter one is answered 14, before all else, and nothing is touched.
+// Doors for outside tests and benchmarks, as C calls them: the review, the schedule writer, the reader, the closing of a table and the run of a warp.
+// A slice is a pointer and a length to C. `answer` is a room of at least 36 numbers; a shorter one is answered 14, before all else, and nothing is touched.
+// The answers stay numbers, 14 among them, for C reads numbers.
 #![tactic(auto)]
 
 ghost use Rattle.probe.specs.Promise.{ProbesReview, ProbesSchedule, ProbesRead, ProbesClose, ProbesWarp};
@@ -108,10 +109,7 @@ pub extern "C" fn probe_read(
 pub extern "C" fn probe_close(relation: &mut [u32], rows: u32) -> u32
     ensures { ProbesClose relation.old rows relation.new result }
 {
-    if close(relation, rows) {
-        return 1;
-    }
-    0
+    u32::from(close(relation, rows))
 }
 
 // 17, 18 or 0. `answer` gets the place and 0, how the run ended and 0, and the number of steps taken, its low half and its high half.
@@ -132,7 +130,7 @@ pub extern "C" fn probe_warp(
     }
     let ran = ran_of(run_kernel(statements, expressions, lanes, cells, steps));
     put_told(answer, ran.told, ran.ending, 0);
-    answer[4] = (ran.taken % 4294967296) as u32;
-    answer[5] = (ran.taken / 4294967296) as u32;
+    answer[4] = (ran.taken % Answer::HALF) as u32;
+    answer[5] = (ran.taken / Answer::HALF) as u32;
     ran.told.number
 }

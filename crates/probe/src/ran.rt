@@ -6,12 +6,12 @@ use kernels::KernelRefusal;
 use runs::Course;
 use verdicts::Told;
 
-// The refusal's number and place, or 0; how the run ended, or 0; and how many steps it took.
+// The refusal's number and place, or 0; how the run ended; and how many steps it took. C reads numbers: the ending is 0 where a kernel was refused.
 #[derive(Clone, Copy)]
 pub(crate) struct Ran {
-    pub told: Told,
-    pub ending: usize,
-    pub taken: u64,
+    pub(crate) told: Told,
+    pub(crate) ending: usize,
+    pub(crate) taken: u64,
 }
 
 pub(crate) fn ran_of(run: Result<Course, KernelRefusal>) -> Ran

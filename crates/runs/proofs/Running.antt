@@ -57,7 +57,6 @@ module _ (s e : List ℕ) where
 pub record Going (s e : List ℕ) (X : KernelTold) (K steps : ℕ) (a : List ℕ) (st : Stand) (μ : Mem) (j : ℕ) : Type 0 where
   pub long : length a ≡ stack_room
   pub size : length μ ≡ K
-  pub soon : j ≤ steps
   pub is : X ≡ tell_run (run_warp s e (steps - j) j (warp_of a st μ))
 
 module _ (s e : List ℕ) (X : KernelTold) (K steps : ℕ) (a : List ℕ) (st : Stand) (μ : Mem) (j : ℕ) (G : Going s e X K steps a st μ j) where
@@ -82,16 +81,16 @@ module _ (s e : List ℕ) (X : KernelTold) (K steps : ℕ) (a : List ℕ) (st : 
   unfolding run_warp
   run_spent h q = let z : steps - j ≡ 0 = omega arith in sym (G.is ∙ rw (z, some_left h))
 
-  one : 0 < st.height → j ≢ steps
+  one : 0 < st.height → j < steps
       → X ≡ tell_run (cond (overfills s e (warp_of a st μ)) (record { ending = WouldOverfill; taken = j; last = warp_of a st μ }) (run_warp s e (steps - suc j) (suc j) (next_warp s e (warp_of a st μ))))
   unfolding run_warp
-  one h q = let z : steps - j ≡ suc (steps - suc j) = omega (arith, G.soon) in G.is ∙ rw (z, some_left h)
+  one h q = let z : steps - j ≡ suc (steps - suc j) = omega arith in G.is ∙ rw (z, some_left h)
 
-  pub run_high : 0 < st.height → j ≢ steps → most_entries < st.height → tell WouldOverfill μ ≡ X
+  pub run_high : 0 < st.height → j < steps → most_entries < st.height → tell WouldOverfill μ ≡ X
   unfolding overfills
   run_high h q l = let z : length (stack_in a st.height) ≡ st.height = held_long a st.height in sym (one h q ∙ rw (lt-ltb most_entries (length (stack_in a st.height)) (omega arith)))
 
-  module _ (a' : List ℕ) (μ' : Mem) (st' : Stand) (S : StepsWarp s e st a μ a' μ' st') (few : statements s ≤ most_statements) (h : 0 < st.height) (q : j ≢ steps) (low : st.height ≤ most_entries) where
+  module _ (a' : List ℕ) (μ' : Mem) (st' : Stand) (S : StepsWarp s e st a μ a' μ' st') (few : statements s ≤ most_statements) (h : 0 < st.height) (q : j < steps) (low : st.height ≤ most_entries) where
     here : warp_of a' st' μ' ≡ next_warp s e (warp_of a st μ)
     here = S.steps (works s a st.height few (omega (arith, G.long)) low)
 
@@ -115,7 +114,6 @@ module _ (s e : List ℕ) (X : KernelTold) (K steps : ℕ) (a : List ℕ) (st : 
         record {
           long = la ∙ G.long;
           size = lm ∙ G.size;
-          soon = omega (arith, G.soon);
           is =
               one h q ∙ rw (le-ltb most_entries (length (stack_in a st.height)) (omega arith), le-ltb most_entries (length (next_warp s e (warp_of a st μ)).stack) (omega arith))
               (ap₂ (λ (i : ℕ) (w : Warp). tell_run (run_warp s e (steps - i) i w)) (sym (add-one j)) (sym here));
@@ -127,7 +125,6 @@ going_start s e lanes steps μ a₀ a st few l k S =
     record {
       long = k;
       size = refl;
-      soon = omega arith;
       is = let z : steps - 0 ≡ steps = omega arith in rw z (ap (λ (w : Warp). tell_run (run_warp s e steps 0 w)) (sym (S.stands (works s a₀ 0 few (omega (arith, l)) (omega arith)) μ)));
     }
 

@@ -32,11 +32,10 @@ fn run_from(code: &[u32], expressions: &[u32], lanes: u32, cells: &mut [u32], st
 {
     let mut stack = [0u64; Stack::ROOM];
     let mut stand = start_warp(code, lanes, &mut stack);
-    let mut taken = 0u64;
-    while stand.height > 0 {
-        if taken == steps {
+    for taken in 0..steps {
+        if stand.height == 0 {
             return Course {
-                ending: Ending::UsedUp,
+                ending: Ending::Finished,
                 taken,
             };
         }
@@ -53,11 +52,15 @@ fn run_from(code: &[u32], expressions: &[u32], lanes: u32, cells: &mut [u32], st
                 taken,
             };
         }
-        taken += 1;
     }
+    let ending = if stand.height == 0 {
+        Ending::Finished
+    } else {
+        Ending::UsedUp
+    };
     Course {
-        ending: Ending::Finished,
-        taken,
+        ending,
+        taken: steps,
     }
 }
 

@@ -9,7 +9,7 @@ use Rattle.probe.proofs.answer.put_sheet.Goals as goal
 
 pub loop-i-init : goal.loop-i-init
 unfolding answer_room most_kept
-loop-i-init c = (search rules, refl, putting_none _ _ (omega (arith, c.requires.1.many)))
+loop-i-init c = (refl, putting_none _ _ (omega (arith, c.requires.1.many)))
 
 -- both numbers of a pair are small
 pub overflow_cast-answer : goal.overflow_cast-answer
@@ -29,19 +29,11 @@ unfolding most_kept
 loop-i-preserved c =
     let l = c.loop-i in
     let t = c.loop-i-test.true in
-    (search rules, search rules, putting_more _ _ _ l.i l.invariant.2 _ _ refl refl (omega (arith, t, c.requires.1.many)))
+    (search rules, putting_more _ _ _ l.i l.invariant.1 _ _ refl refl (omega (arith, t, c.requires.1.many)))
 
 pub returns : goal.returns
 unfolding most_kept
-returns c = let l = c.loop-i in putting_done _ _ _ l.i l.invariant.2 (omega (arith, c.requires.1.many, c.loop-i-test.false))
-
-pub offset_bounds-sheet-i : goal.offset_bounds-sheet-i
-unfolding answer_room
-offset_bounds-sheet-i c = search rules
-
-pub bounds-sheet-i : goal.bounds-sheet-i
-unfolding answer_room
-bounds-sheet-i c = search rules
+returns c = let l = c.loop-i in putting_done _ _ _ l.i l.invariant.1 (omega (arith, c.requires.1.many, c.loop-i-test.false))
 
 pub overflow_mul-answer : goal.overflow_mul-answer
 unfolding answer_room
@@ -74,14 +66,6 @@ offset_bounds-answer-i-in-loop-i c = search rules
 pub bounds-answer-i-in-loop-i : goal.bounds-answer-i-in-loop-i
 unfolding answer_room
 bounds-answer-i-in-loop-i c = simp length-set (search rules)
-
-pub overflow_add-i : goal.overflow_add-i
-unfolding answer_room
-overflow_add-i c = search rules
-
-pub loop-i-smaller : goal.loop-i-smaller
-unfolding answer_room
-loop-i-smaller c = search rules
 
 pub shape_of-answer : goal.shape_of-answer
 unfolding answer_room
