@@ -27,18 +27,18 @@ impl Report {
 
 // The rooms of a review, all of them full ones.
 #[derive(Drop)]
-struct Rooms {
+struct ReviewRooms {
     commands: [u32; Full::NUMBERS],
     lengths: [u32; Table::THREADS],
     relation: [u32; Full::WORDS],
     generations: [u32; Table::ROWS],
 }
 
-impl Rooms {
+impl ReviewRooms {
     // Inlined, or the rooms would be copied.
     #[inline(always)]
     fn full() -> Self {
-        Rooms {
+        ReviewRooms {
             commands: [0; Full::NUMBERS],
             lengths: [0; Table::THREADS],
             relation: [0; Full::WORDS],
@@ -70,7 +70,7 @@ pub fn review_text(text: &[u8], report: &mut [u8]) -> u32
     if report.len() < Report::BYTES {
         return 14;
     }
-    let mut rooms = Rooms::full();
+    let mut rooms = ReviewRooms::full();
     let conclusion = rooms.conclude(text).conclusion;
     let mut out = Printer {
         room: report,
@@ -87,7 +87,7 @@ pub fn review_text_evidence(text: &[u8], report: &mut [u8]) -> u32
     if report.len() < Report::EVIDENCE_BYTES {
         return 14;
     }
-    let mut rooms = Rooms::full();
+    let mut rooms = ReviewRooms::full();
     let Concluded {
         conclusion,
         numbers,

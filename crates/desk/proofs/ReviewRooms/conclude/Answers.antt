@@ -1,9 +1,9 @@
--- `Rooms::conclude` meets its contract: its rooms are full ones. Assumes nothing.
+-- `ReviewRooms::conclude` meets its contract: its rooms are full ones. Assumes nothing.
 use native.Mathlib.Omega.{arith}
 use borrow.Author.Rules.{rules}
 use Rattle.tables.specs.Limits.{most_rows, most_threads}
 use Rattle.relation.specs.Table.{width}
-use Rattle.desk.proofs.Rooms.conclude.Goals as goal
+use Rattle.desk.proofs.ReviewRooms.conclude.Goals as goal
 
 pub conclude-requires : goal.conclude-requires
 unfolding most_rows most_threads width
