@@ -4,7 +4,7 @@ use Rattle.tables.specs.Limits.{most_rows}
 use Rattle.faults.specs.declared.faults.Fault.TheVariants.{Reuse}
 use Rattle.findings.specs.Needs.{Next}
 use Rattle.findings.proofs.Listing.{candidate, candidate_none, candidate_above}
-use Rattle.findings.proofs.lists.Listing.first_candidate.Goals as goal
+use Rattle.findings.proofs.lists.Trails.first_candidate.Goals as goal
 
 pub returns-then-not-listed : goal.returns-then-not-listed
 unfolding most_rows

@@ -3,7 +3,7 @@ use Rattle.sheet.specs.Sheet.{most_kept}
 use Rattle.printing.proofs.Placing.{puts_on}
 use Rattle.wording.proofs.Along.{along_more, along_end}
 use Rattle.exhibits.proofs.Races.{races_next, races_end}
-use Rattle.exhibits.proofs.exhibit.Admitted.put_races.Goals as goal
+use Rattle.exhibits.proofs.exhibit.Exhibitor.put_races.Goals as goal
 
 pub shared_ref_as_front-pair-items : goal.shared_ref_as_front-pair-items
 unfolding most_kept

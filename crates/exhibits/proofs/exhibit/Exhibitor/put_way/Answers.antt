@@ -1,7 +1,7 @@
 -- `put_way` meets its contract: the line, and the schedule from the front of its room. Assumes nothing.
 use Rattle.exhibits.specs.Exhibits.{order_exhibit}
 use Rattle.exhibits.proofs.Apart.{full_room, puts_below}
-use Rattle.exhibits.proofs.exhibit.Admitted.put_way.Goals as goal
+use Rattle.exhibits.proofs.exhibit.Exhibitor.put_way.Goals as goal
 
 pub fill_apart-steps-requires : goal.fill_apart-steps-requires
 fill_apart-steps-requires c = full_room c.args.self.now.roomy.keeps

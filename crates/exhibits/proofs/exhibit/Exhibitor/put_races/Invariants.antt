@@ -4,7 +4,7 @@ use Rattle.tables.specs.Rows.{rows}
 use Rattle.relation.specs.Table.{related}
 use Rattle.exhibits.specs.Exhibits.{race_exhibits}
 use Rattle.wording.proofs.Along.{Along}
-use Rattle.exhibits.proofs.exhibit.Admitted.put_races.Given as goal
+use Rattle.exhibits.proofs.exhibit.Exhibitor.put_races.Given as goal
 
 abbrev pub invariant-loop-pair : goal.invariant-loop-pair
 invariant-loop-pair l =
