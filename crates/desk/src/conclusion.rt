@@ -36,11 +36,9 @@ fn judge_tables(tables: Tables, relation: &mut [u32], generations: &mut [u32]) -
     let mut schedule = [0u32; Table::ROWS];
     let steps = write_schedule(tables, &mut schedule).unwrap_or(0);
     let found = review(tables, &schedule[..steps], relation, generations);
-    let verdict = found.verdict;
-    let sheet = found.sheet;
     Conclusion {
-        told: verdict.told(),
-        sheet,
+        told: found.verdict.told(),
+        sheet: found.sheet,
     }
 }
 
@@ -85,16 +83,15 @@ impl ReviewRooms {
         };
         let numbers = sizes.commands * 3;
         let threads = sizes.threads;
-        let conclusion = judge_tables(
-            Tables {
-                commands: &self.commands[..numbers],
-                lengths: &self.lengths[..threads],
-            },
-            &mut self.relation,
-            &mut self.generations,
-        );
         Concluded {
-            conclusion,
+            conclusion: judge_tables(
+                Tables {
+                    commands: &self.commands[..numbers],
+                    lengths: &self.lengths[..threads],
+                },
+                &mut self.relation,
+                &mut self.generations,
+            ),
             numbers,
             threads,
         }

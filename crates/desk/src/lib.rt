@@ -32,13 +32,13 @@ pub fn review_text(text: &[u8], report: &mut [u8]) -> u32
         return 14;
     }
     let mut rooms = ReviewRooms::full();
-    let conclusion = rooms.conclude(text).conclusion;
+    let concluded = rooms.conclude(text);
     let mut out = Printer {
         room: report,
         at: 0,
     };
-    print(&mut out, conclusion);
-    conclusion.told.number
+    print(&mut out, concluded.conclusion);
+    concluded.conclusion.told.number
 }
 
 // The same, and after the report the schedules that show a reuse fault or a race, each below a line in words.
@@ -49,26 +49,22 @@ pub fn review_text_evidence(text: &[u8], report: &mut [u8]) -> u32
         return 14;
     }
     let mut rooms = ReviewRooms::full();
-    let Concluded {
-        conclusion,
-        numbers,
-        threads,
-    } = rooms.conclude(text);
+    let concluded = rooms.conclude(text);
     let mut out = Printer {
         room: report,
         at: 0,
     };
-    print(&mut out, conclusion);
+    print(&mut out, concluded.conclusion);
     put_exhibits(
         &mut out,
         Tables {
-            commands: &rooms.commands[..numbers],
-            lengths: &rooms.lengths[..threads],
+            commands: &rooms.commands[..concluded.numbers],
+            lengths: &rooms.lengths[..concluded.threads],
         },
         &rooms.generations,
         &rooms.relation,
-        conclusion.told.number,
-        conclusion.sheet,
+        concluded.conclusion.told.number,
+        concluded.conclusion.sheet,
     );
-    conclusion.told.number
+    concluded.conclusion.told.number
 }

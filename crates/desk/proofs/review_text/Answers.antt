@@ -12,4 +12,4 @@ returns-then-report-lt-BYTES c = refused_room _ (omega (arith, c.if-report-lt-BY
 
 pub returns : goal.returns
 unfolding least_room
-returns c = reviewed_text _ (omega (arith, c.if-report-lt-BYTES.false)) c.conclude.ensures.concludes.concludes refl c.print.ensures (search rules)
+returns c = reviewed_text _ (omega (arith, c.if-report-lt-BYTES.false)) c.conclude-concluded.ensures.concludes.concludes refl c.print.ensures (search rules)

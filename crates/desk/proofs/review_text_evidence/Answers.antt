@@ -15,5 +15,5 @@ returns-then-report-lt-EVIDENCE_BYTES c = evidence_refused _ (omega (arith, c.if
 pub returns : goal.returns
 unfolding least_evidence most_rows width
 returns c =
-    evidenced_text c.conclude-numbers.ensures.concludes (search rules) (search rules) (search rules) (omega (arith, c.if-report-lt-EVIDENCE_BYTES.false)) refl
+    evidenced_text c.conclude-concluded.ensures.concludes (search rules) (search rules) (search rules) (omega (arith, c.if-report-lt-EVIDENCE_BYTES.false)) refl
     c.print.ensures c.put_exhibits.ensures (search rules)

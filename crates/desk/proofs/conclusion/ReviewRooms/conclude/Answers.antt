@@ -14,15 +14,15 @@ returns-in_default c =
       fits = (omega arith, omega arith);
     }
 
-pub judge_tables-conclusion-requires : goal.judge_tables-conclusion-requires
+pub judge_tables-requires : goal.judge_tables-requires
 unfolding most_rows width
-judge_tables-conclusion-requires c = record { wide = search rules; high = search rules }
+judge_tables-requires c = record { wide = search rules; high = search rules }
 
 pub returns : goal.returns
 unfolding most_rows most_threads
 returns c =
     let r = c.read-reading in
     record {
-      concludes = accepted_text r.ensures (search rules) (search rules) c.in-Ok.is c.judge_tables-conclusion.ensures;
+      concludes = accepted_text r.ensures (search rules) (search rules) c.in-Ok.is c.judge_tables.ensures;
       fits = (omega (arith, numbers_fit r.ensures (search rules) (search rules) c.in-Ok.is, r.auto.commands), omega (arith, threads_fit r.ensures (search rules) (search rules) c.in-Ok.is, r.auto.lengths));
     }
