@@ -13,8 +13,10 @@ use sweeps::put_reach;
 use tables::{Table, Tables, put_heads};
 use verdicts::Refusal;
 
+// Not inlined, so that these rooms are not on the stack while a caller replays.
 // The rooms suffice: pairs are listed, and what they reach is happens-before. A seat that nobody takes holds no row's number:
 // with an Option the seats would be 32 KB, and to fill those takes as long as a tenth of a review of 64 commands (docs/DECISIONS.md, 'How many seats').
+#[inline(never)]
 fn put_reached(tables: Tables, generations: &[u32], relation: &mut [u32])
     requires { Ample tables.commands.now (length relation.old) (length generations.now) }
     ensures { Reached tables.entry.commands.now tables.entry.lengths.now (number_at generations.now)
