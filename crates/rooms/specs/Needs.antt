@@ -1,5 +1,5 @@
 -- What the parts of a search ask for and pass on; nothing public speaks of it.
-use Rattle.std.specs.Prelude.{List, ℕ, ◌≤◌, ◌<◌, length}
+use Rattle.std.specs.Prelude.{List, ℕ, ◌≤◌, length}
 use Rattle.tables.specs.Limits.{most_rows}
 use Rattle.tables.specs.Rows.{rows}
 use Rattle.rules.specs.Rules.{Keeps}

@@ -1,5 +1,5 @@
 -- Bytes put part by part: what has been put, and what is left. Assumes nothing.
-use mathlib.Core.Path.{◌≡◌, refl, sym, ap, ◌∙◌}
+use mathlib.Core.Path.{◌≡◌, sym, ap, ◌∙◌}
 use mathlib.Core.List.{List, [], ◌∷◌, ◌++◌, append-nil, append_assoc}
 use Prim.Native.Nat.{ℕ, suc, ◌+◌, ◌-◌, ◌≤◌, ◌<◌}
 use native.Mathlib.Numerals.{add-one}
@@ -8,7 +8,7 @@ use lib.Seq.{drop-cons}
 use Rattle.printing.specs.Figures.{figures}
 use Rattle.printing.specs.declared.Printer.{Printer}
 use Rattle.printing.specs.Putting.{Prints}
-use Rattle.printing.proofs.Placing.{puts_none, puts_on}
+use Rattle.printing.proofs.Placing.{puts_on}
 use Rattle.wording.specs.declared.Shown.TheVariants.{Generation}
 use Rattle.wording.specs.Lines.{command_word, gets_word, not_word, line_end, shown_line, parting_byte, steps_line}
 
@@ -17,9 +17,6 @@ pub record Along (p q : Printer) (all rest : List ℕ) : Type 0 where
   pub front : List ℕ
   pub puts : Prints p q front
   pub whole : all ≡ front ++ rest
-
-pub along_none : (p : Printer) (all : List ℕ) → Along p p all all
-along_none p all = record { front = []; puts = puts_none p; whole = refl }
 
 module _ {p q : Printer} {all rest : List ℕ} (A : Along p q all rest) where
   pub along_more : {part left : List ℕ} → rest ≡ part ++ left → {r : Printer} → Prints q r part → Along p r all left
