@@ -1,4 +1,5 @@
-// A barrier: either unset, or expecting a count with what has registered so far. Its phase is an enum that is held in it and matched as a copy, as document 01 has it.
+// A barrier: either unset, or expecting a count with what has registered so far.
+// Its phase is an enum that is held in it and matched as a copy, as document 01 has it.
 ghost use Rattle.std.specs.Prelude.{◌≡◌};
 ghost use Rattle.barriers.specs.Barrier.{one_more_of};
 ghost use Rattle.barriers.specs.Promise.{AnswersRegister, AnswersIsSet};
@@ -26,7 +27,7 @@ pub enum Met {
     Completes,
 }
 
-// That, and the barrier after it: beside each other, since an enum cannot hold what a barrier may come to hold.
+// That, and the barrier after it. They stand beside each other: with request 2026-07 a barrier gets a set, which no case of an enum can hold.
 #[derive(Clone, Copy)]
 pub struct Registration {
     pub met: Met,

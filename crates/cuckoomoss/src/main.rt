@@ -1,8 +1,8 @@
-// Reads one text from standard input and prints its report, with evidence where `--evidence` asks for it. An error of reading or writing is told on standard error, and is
-// never taken for an end.
+// Reads one text from standard input and prints its report, with evidence where `--evidence` asks for it.
+// An error of reading or writing is told on standard error, and is never taken for an end.
 #![tactic(auto)]
 
-ghost use Rattle.std.specs.Prelude.{◌≡◌};
+ghost use Rattle.std.specs.Prelude.{◌≡◌, eqb, position};
 ghost use Rattle.cuckoomoss.specs.Printed.{IsPrefixLen, AnswersBeforeZero, HoldsReport, HoldsExhibits};
 
 use asked::{Wanted, asked};
@@ -12,19 +12,20 @@ use input::{Input, fill};
 mod asked; // what the arguments ask for
 mod input; // a text from standard input
 
+fn first_zero(room: &[u8]) -> Option<usize>
+    ensures { result ≡ position (λ b. eqb b 0) room.now }
+{
+    room.iter().position(|byte| *byte == 0)
+}
+
 // How many bytes stand before the first zero. The report room begins as zeros and a report has none, nor has evidence, so that is where the report ends.
 fn before_zero(room: &[u8]) -> usize
     ensures { AnswersBeforeZero room.now result }
 {
-    for (i, byte) in room.iter().enumerate() {
-        if *byte == 0 {
-            return i;
-        }
-    }
-    room.len()
+    first_zero(room).unwrap_or(room.len())
 }
 
-// What is printed of a text: the first `len` of these bytes.
+// What is printed of a text: the first `len` of these bytes. There is no heap, so the bytes have a length beside them.
 #[derive(Clone, Copy)]
 struct Output<const N: usize> {
     bytes: [u8; N],
@@ -33,6 +34,7 @@ struct Output<const N: usize> {
 }
 
 // Reviews a text into a room of zeros, of the size that the text review asks for.
+// Without evidence and with it are two functions: tried, and a bound may not name a const parameter, so no closure can answer an `Output<N>`.
 fn report_of(text: &[u8]) -> Output<{ Report::BYTES }>
     ensures { HoldsReport text.now result.bytes result.len }
 {

@@ -43,7 +43,7 @@ use Rattle.exhibits.proofs.Alike.{Named, exhibits_alike}
 use Rattle.exhibits.proofs.Long.{exhibits_short}
 use Rattle.exhibits.proofs.True.{shown_true}
 use Rattle.printing.specs.declared.Printer.{Printer}
-use Rattle.printing.specs.Putting.{Puts}
+use Rattle.printing.specs.Putting.{Prints}
 use Rattle.printing.proofs.Placing.{puts_on, puts_over}
 use Rattle.report.specs.declared.Conclusion.{Conclusion}
 use Rattle.desk.specs.declared.conclusion.Concluded.{Concluded}
@@ -230,8 +230,8 @@ module _ {text relation generations : List ℕ} {r : Concluded} {commands' lengt
       (λ (f : has_pairs k ≡ false). none_are f (take r.numbers commands') (take r.threads lengths'))
       (split (has_pairs k))
 
-  pub evidenced_text : {p q q' : Printer} {room : List ℕ} → least_evidence ≤ length p.room.now → p.at ≡ 0 → Puts p q (report r.conclusion)
-      → Puts q q' (exhibited (take r.numbers commands') (take r.threads lengths') generations' relation' r.conclusion.told.number r.conclusion.sheet)
+  pub evidenced_text : {p q q' : Printer} {room : List ℕ} → least_evidence ≤ length p.room.now → p.at ≡ 0 → Prints p q (report r.conclusion)
+      → Prints q q' (exhibited (take r.numbers commands') (take r.threads lengths') generations' relation' r.conclusion.told.number r.conclusion.sheet)
       → room ≡ q'.room.now → TextEvidenced text p.room.now room r.conclusion.told.number
   evidenced_text h z f g e =
       let told_is : r.conclusion.told.number ≡ (of_text text).told.number = ap (λ (k : Conclusion). k.told.number) C.concludes in

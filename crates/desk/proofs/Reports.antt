@@ -18,7 +18,7 @@ use Rattle.notation.specs.Reading.{Reading, most_bytes, answered, row_numbers, t
 use Rattle.notation.proofs.Readings.{Stands, reads_means}
 use Rattle.relation.specs.Table.{words}
 use Rattle.printing.specs.declared.Printer.{Printer}
-use Rattle.printing.specs.Putting.{Puts}
+use Rattle.printing.specs.Putting.{Prints}
 use Rattle.printing.proofs.Placing.{puts_over}
 use Rattle.replay.specs.Writer.{schedule}
 use Rattle.sheet.specs.Sheet.{most_kept, pair, firsts, sheet_of}
@@ -116,7 +116,7 @@ refused_room text l =
     }
 
 pub reviewed_text : (text : List ℕ) {p q : Printer} {k : Conclusion} {room : List ℕ} → least_room ≤ length p.room.now → k ≡ of_text text → p.at ≡ 0
-    → Puts p q (report k) → room ≡ q.room.now → TextReviewed text p.room.now room k.told.number
+    → Prints p q (report k) → room ≡ q.room.now → TextReviewed text p.room.now room k.told.number
 reviewed_text text {k = k} l e z f r =
     let n : k.told.number ≡ (of_text text).told.number = cc in
     record {

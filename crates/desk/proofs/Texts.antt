@@ -59,7 +59,7 @@ module _ {text commands lengths commands' lengths' : List ℕ} {r : Reading} (re
     t = y.threads
 
     -- the program's tables stand first in the rooms
-    stand : (take (m * 3) commands' ≡ row_numbers text) × (take t lengths' ≡ thread_lengths text) × (m * 3 ≤ length commands') × (t ≤ length lengths') × (m ≤ most_rows)
+    stand : (take (m * 3) commands' ≡ row_numbers text) × (take t lengths' ≡ thread_lengths text) × (m * 3 ≤ length commands') × (t ≤ length lengths')
     stand =
         let (x, d, w) = reads.by_grammar.accepted y is in
         let h = reads.by_grammar.accepts x d w in
@@ -75,11 +75,7 @@ module _ {text commands lengths commands' lengths' : List ℕ} {r : Reading} (re
           ap (λ (l : List ℕ). take t l) h.lens ∙ take_at (listing_lengths x) _ t v ∙ sym b,
           omega (arith, ap (λ (l : List ℕ). length l) h.rows, length-append (flat (listing_rows x)) (drop (length (flat (listing_rows x))) commands)),
           omega (arith, ap (λ (l : List ℕ). length l) h.lens, length-append (listing_lengths x) (drop (length (listing_lengths x)) lengths)),
-          omega (arith, w.few_rows),
         )
-
-    pub few_rows : m ≤ most_rows
-    few_rows = stand.4
 
     pub numbers_fit : m * 3 ≤ length commands'
     numbers_fit = stand.2

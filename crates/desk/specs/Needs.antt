@@ -1,6 +1,6 @@
 -- What the parts of a text review ask of rooms, and leave in them.
-use Rattle.std.specs.Prelude.{◌≡◌, true, List, ℕ, ◌*◌, ◌≤◌, length, take}
-use Rattle.tables.specs.Limits.{most_rows, most_threads}
+use Rattle.std.specs.Prelude.{◌≡◌, true, List, ℕ, ◌≤◌, length, take}
+use Rattle.tables.specs.Limits.{most_rows}
 use Rattle.tables.specs.Rows.{rows}
 use Rattle.tables.specs.Over.{over}
 use Rattle.verdicts.specs.Numbers.{has_pairs}
@@ -14,12 +14,7 @@ use Rattle.report.specs.declared.Conclusion.{Conclusion}
 use Rattle.desk.specs.declared.conclusion.Concluded.{Concluded}
 use Rattle.desk.specs.Conclusion.{read_as, of_tables, of_text}
 
--- rooms for the longest tables
-pub record FullTables (commands lengths : List ℕ) : Type 0 where
-  pub numbers : length commands ≡ most_rows * 3
-  pub threads : length lengths ≡ most_threads
-
--- and for what a review of them fills
+-- rooms for what a review of the longest tables fills
 pub record FullRooms (relation generations : List ℕ) : Type 0 where
   pub wide : length relation ≡ words most_rows
   pub high : length generations ≡ most_rows

@@ -1,5 +1,6 @@
 // What the review of a text tells: the text read, a schedule written, and that judged.
-ghost use Rattle.desk.specs.Needs.{FullRooms, FullTables, JudgesTables, Concludes};
+ghost use Rattle.std.specs.Prelude.{◌≤◌};
+ghost use Rattle.desk.specs.Needs.{FullRooms, JudgesTables, Concludes};
 
 use notation::{read, told};
 use replay::write_schedule;
@@ -8,7 +9,7 @@ use review::review;
 use sheet::Sheet;
 use tables::{Table, Tables};
 
-// What is concluded from a text, and how many numbers its two tables have; none where it is refused.
+// What is concluded from a text, and how many numbers its two tables have: 0 where it is refused, since an empty table needs no case.
 #[derive(Clone, Copy)]
 pub(crate) struct Concluded {
     pub(crate) conclusion: Conclusion,
@@ -43,42 +44,59 @@ fn judge_tables(tables: Tables, relation: &mut [u32], generations: &mut [u32]) -
     }
 }
 
-// A text read into tables, and these judged; or what the reading refused. All rooms are full ones.
-pub(crate) fn conclude(
-    text: &[u8],
-    commands: &mut [u32],
-    lengths: &mut [u32],
-    relation: &mut [u32],
-    generations: &mut [u32],
-) -> Concluded
-    requires { FullTables commands.old lengths.old × FullRooms relation.old generations.old }
-    ensures { Concludes text.now relation.old generations.old
-        result commands.new lengths.new relation.new generations.new }
-{
-    let reading = read(text, commands, lengths);
-    let Ok(sizes) = reading else {
-        return Concluded {
-            conclusion: Conclusion {
-                told: told(reading),
-                sheet: Sheet::empty(),
-            },
-            numbers: 0,
-            threads: 0,
+// The rooms of a review, all of them full ones.
+#[derive(Drop)]
+pub(crate) struct ReviewRooms {
+    pub(crate) commands: [u32; Full::NUMBERS],
+    pub(crate) lengths: [u32; Table::THREADS],
+    pub(crate) relation: [u32; Full::WORDS],
+    pub(crate) generations: [u32; Table::ROWS],
+}
+
+impl ReviewRooms {
+    // Inlined, or the rooms would be copied.
+    #[inline(always)]
+    pub(crate) fn full() -> Self {
+        ReviewRooms {
+            commands: [0; Full::NUMBERS],
+            lengths: [0; Table::THREADS],
+            relation: [0; Full::WORDS],
+            generations: [0; Table::ROWS],
+        }
+    }
+
+    // A text read into tables, and these judged; or what the reading refused. Inlined, or the stack would be more than include/desk.h says.
+    #[inline(always)]
+    pub(crate) fn conclude(&mut self, text: &[u8]) -> Concluded
+        ensures concludes { Concludes text.now self.old.relation self.old.generations
+            result self.new.commands self.new.lengths self.new.relation self.new.generations }
+        ensures fits { (result.numbers ≤ Full.NUMBERS) × (result.threads ≤ Table.THREADS) }
+    {
+        let reading = read(text, &mut self.commands, &mut self.lengths);
+        let Ok(sizes) = reading else {
+            return Concluded {
+                conclusion: Conclusion {
+                    told: told(reading),
+                    sheet: Sheet::empty(),
+                },
+                numbers: 0,
+                threads: 0,
+            };
         };
-    };
-    let numbers = sizes.commands * 3;
-    let threads = sizes.threads;
-    let conclusion = judge_tables(
-        Tables {
-            commands: &commands[..numbers],
-            lengths: &lengths[..threads],
-        },
-        relation,
-        generations,
-    );
-    Concluded {
-        conclusion,
-        numbers,
-        threads,
+        let numbers = sizes.commands * 3;
+        let threads = sizes.threads;
+        let conclusion = judge_tables(
+            Tables {
+                commands: &self.commands[..numbers],
+                lengths: &self.lengths[..threads],
+            },
+            &mut self.relation,
+            &mut self.generations,
+        );
+        Concluded {
+            conclusion,
+            numbers,
+            threads,
+        }
     }
 }

@@ -1,16 +1,14 @@
 // The text review: a text in, a report out, and the evidence for it. desk_c has both doors as C calls them.
 #![tactic(auto)]
 
-ghost use Rattle.std.specs.Prelude.{◌≤◌};
 ghost use Rattle.desk.specs.Promise.{TextReviewed};
 ghost use Rattle.desk.specs.Evidence.{TextEvidenced};
-ghost use Rattle.desk.specs.Needs.{Concludes};
 
-use crate::conclusion::{Concluded, Full, conclude};
+use crate::conclusion::{Concluded, ReviewRooms};
 use exhibits::put_exhibits;
 use printing::Printer;
 use report::print;
-use tables::{Table, Tables};
+use tables::Tables;
 
 mod conclusion; // a text read, scheduled and judged
 
@@ -25,52 +23,15 @@ impl Report {
     pub const EVIDENCE_BYTES: usize = 192 + 32 * 1600;
 }
 
-// The rooms of a review, all of them full ones.
-#[derive(Drop)]
-struct Rooms {
-    commands: [u32; Full::NUMBERS],
-    lengths: [u32; Table::THREADS],
-    relation: [u32; Full::WORDS],
-    generations: [u32; Table::ROWS],
-}
-
-impl Rooms {
-    // Inlined, or the rooms would be copied.
-    #[inline(always)]
-    fn full() -> Self {
-        Rooms {
-            commands: [0; Full::NUMBERS],
-            lengths: [0; Table::THREADS],
-            relation: [0; Full::WORDS],
-            generations: [0; Table::ROWS],
-        }
-    }
-
-    // A text read into tables, and these judged; or what the reading refused. Inlined, or the stack would be more than include/desk.h says.
-    #[inline(always)]
-    fn conclude(&mut self, text: &[u8]) -> Concluded
-        ensures concludes { Concludes text.now self.old.relation self.old.generations
-            result self.new.commands self.new.lengths self.new.relation self.new.generations }
-        ensures fits { (result.numbers ≤ Full.NUMBERS) × (result.threads ≤ Table.THREADS) }
-    {
-        conclude(
-            text,
-            &mut self.commands,
-            &mut self.lengths,
-            &mut self.relation,
-            &mut self.generations,
-        )
-    }
-}
-
 // Reads a text, writes a schedule, judges it and prints. Its own rooms are full ones on the stack.
 pub fn review_text(text: &[u8], report: &mut [u8]) -> u32
     ensures { TextReviewed text.now report.old report.new result }
 {
     if report.len() < Report::BYTES {
+        // a number, here and below: C reads numbers
         return 14;
     }
-    let mut rooms = Rooms::full();
+    let mut rooms = ReviewRooms::full();
     let conclusion = rooms.conclude(text).conclusion;
     let mut out = Printer {
         room: report,
@@ -87,7 +48,7 @@ pub fn review_text_evidence(text: &[u8], report: &mut [u8]) -> u32
     if report.len() < Report::EVIDENCE_BYTES {
         return 14;
     }
-    let mut rooms = Rooms::full();
+    let mut rooms = ReviewRooms::full();
     let Concluded {
         conclusion,
         numbers,

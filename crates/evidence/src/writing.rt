@@ -1,4 +1,4 @@
-// Schedules into a room, one after the other. Both tables and the relation stay three slices, as `write_apart` takes them: a struct would be taken apart again at once.
+// Schedules into a room, one after the other.
 ghost use Rattle.evidence.specs.Needs.{apart_in, both_ways_in, PutsAt, FitsAt, FitsAll};
 
 use replay::write_apart;

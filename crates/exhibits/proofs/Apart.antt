@@ -9,7 +9,7 @@ use Rattle.tables.specs.Limits.{most_rows}
 use Rattle.tables.specs.Rows.{rows}
 use Rattle.rules.specs.Rules.{Keeps}
 use Rattle.printing.specs.declared.Printer.{Printer}
-use Rattle.printing.specs.Putting.{Puts}
+use Rattle.printing.specs.Putting.{Prints}
 use Rattle.printing.proofs.Placing.{puts_on}
 use Rattle.steps.specs.Writing.{FilledBy}
 use Rattle.wording.specs.declared.Shown.{Shown}
@@ -29,10 +29,10 @@ module _ {σ room after : List ℕ} {n : ℕ} (B : FilledBy σ room after n) whe
   front_is = ap (take n) (filled_room B) ∙ take_at σ (drop n room) n (sym B.long)
 
   -- a line, and below it the front of the room
-  pub puts_below : {line : List ℕ} {p q r : Printer} → Puts p q line → Puts q r (steps_line (take n after)) → Puts p r (line ++ steps_line σ)
+  pub puts_below : {line : List ℕ} {p q r : Printer} → Prints p q line → Prints q r (steps_line (take n after)) → Prints p r (line ++ steps_line σ)
   puts_below f g = puts_on f (rw front_is at g)
 
   -- the line says what the front of the room shows
   pub puts_shown : (commands lengths : List ℕ) (g : ℕ → ℕ) {s : Shown} {p q r : Printer} → s ≡ what_is_shown commands lengths g (take n after)
-      → Puts p q (shown_line s) → Puts q r (steps_line (take n after)) → Puts p r (exhibit (what_is_shown commands lengths g σ) σ)
+      → Prints p q (shown_line s) → Prints q r (steps_line (take n after)) → Prints p r (exhibit (what_is_shown commands lengths g σ) σ)
   puts_shown commands lengths g e f h = puts_below (rw (e ∙ ap (what_is_shown commands lengths g) front_is) at f) h

@@ -1,27 +1,22 @@
 -- What a schedule shows, from how it is judged. Assumes nothing.
-use mathlib.Core.Path.{◌≡◌, ap, ◌∙◌}
+use mathlib.Core.Path.{◌≡◌, refl, sym, ap, ◌∙◌}
 use mathlib.Core.Logic.{◌≢◌}
 use mathlib.Core.Bool.{not}
 use mathlib.Core.List.{List}
 use Prim.Native.Nat.{ℕ, ◌≤◌, ◌<◌}
-use borrow.Author.Tests.{eq-eqb, ne_eqb, lt-ltb, le-ltb}
+use borrow.Author.Tests.{ne_eqb, lt-ltb, le-ltb}
 use Rattle.tables.specs.Rows.{rows}
 use Rattle.verdicts.specs.Verdicts.{numbered}
-use Rattle.verdicts.specs.declared.Told.{Told}
+use Rattle.verdicts.specs.declared.Refusal.TheVariants.{BadCommands, BadLengths, BadRow, ShortRoom}
+use Rattle.verdicts.specs.declared.Verdict.{Verdict}
+use Rattle.verdicts.specs.declared.Verdict.TheVariants as V
 use Rattle.rooms.specs.Rooms.{number_at}
 use Rattle.replay.specs.declared.offered.Judged.{Judged}
 use Rattle.replay.specs.Doors.{Replays}
 use Rattle.tables.proofs.Scans.{Scanned, scan_found, scan_end}
-use Rattle.wording.specs.declared.Shown.TheVariants.{Generation, Mismatch, Deadlock, LeftSet}
-use Rattle.exhibits.specs.declared.shown.End.{End}
-use Rattle.exhibits.specs.Shown.{differs, generation_of, other_generation_of, what_is_shown}
-use Rattle.exhibits.specs.Needs.{Ended}
-
--- ---- the judge's answer
-
-pub ended : {commands lengths σ : List ℕ} {r : Judged} {t : Told} → Replays commands lengths σ r → t ≡ numbered r.verdict
-    → Ended commands lengths σ (record { told = t; generations = r.generations })
-ended R e = record { told = e ∙ R.verdict; generations = R.generations }
+use Rattle.wording.specs.declared.Shown.{Shown}
+use Rattle.wording.specs.declared.Shown.TheVariants.{Generation}
+use Rattle.exhibits.specs.Shown.{differs, generation_of, other_generation_of, shown_as, what_is_shown}
 
 -- ---- the search for another generation
 
@@ -38,22 +33,33 @@ module _ (f g : ℕ → ℕ) {m c : ℕ} (S : Scanned (differs f g) m c) where
       let e : Generation m 0 0 ≡ generation_of f g m c = rw (le-ltb c m l) in
       e ∙ ap (generation_of f g m) (scan_end (differs f g) S l)
 
--- ---- each answer, by its test
+-- ---- each answer, by its verdict
 
-module _ {commands lengths σ : List ℕ} (g : ℕ → ℕ) {e : End} (E : Ended commands lengths σ e) where
-  pub shows_mismatch : e.told.number ≡ 7 → Mismatch e.told.place ≡ what_is_shown commands lengths g σ
-  unfolding what_is_shown
-  shows_mismatch q = rw (← E.told, eq-eqb e.told.number 7 q)
+none_said : (v : Verdict) → ((c : ℕ) → v ≡ V.Mismatch c → ⊥) → ((c : ℕ) → v ≡ V.Blocked c → ⊥) → ((b : ℕ) → v ≡ V.StillSet b → ⊥) → (s : Shown) → s ≡ shown_as (numbered v) s
+none_said V.Clean a b d s = refl
+none_said (V.Refused BadCommands) a b d s = refl
+none_said (V.Refused BadLengths) a b d s = refl
+none_said (V.Refused (BadRow c)) a b d s = refl
+none_said (V.Refused (ShortRoom r)) a b d s = refl
+none_said (V.NotAllowed n) a b d s = refl
+none_said (V.Unfinished n) a b d s = refl
+none_said (V.Mismatch c) a b d s = absurd (a c refl)
+none_said (V.Blocked c) a b d s = absurd (b c refl)
+none_said (V.StillSet c) a b d s = absurd (d c refl)
+none_said (V.Reuse c k) a b d s = refl
+none_said (V.Race x y) a b d s = refl
 
-  pub shows_deadlock : e.told.number ≡ 8 → Deadlock e.told.place ≡ what_is_shown commands lengths g σ
-  unfolding what_is_shown
-  shows_deadlock q = rw (← E.told, q)
+module _ {commands lengths σ : List ℕ} (g : ℕ → ℕ) {r : Judged} (R : Replays commands lengths σ r) where
+  abbrev other : Shown
+  other = other_generation_of (number_at r.generations) g (rows commands)
 
-  pub shows_set : e.told.number ≡ 9 → LeftSet e.told.place ≡ what_is_shown commands lengths g σ
+  by_verdict : shown_as (numbered r.verdict) other ≡ what_is_shown commands lengths g σ
   unfolding what_is_shown
-  shows_set q = rw (← E.told, q)
+  by_verdict = rw (R.verdict, R.generations)
 
-  pub shows_other : e.told.number ≢ 7 → e.told.number ≢ 8 → e.told.number ≢ 9
-      → other_generation_of (number_at e.generations) g (rows commands) ≡ what_is_shown commands lengths g σ
-  unfolding what_is_shown
-  shows_other a b d = rw (← E.told, ← E.generations, ne_eqb _ 7 a, ne_eqb _ 8 b, ne_eqb _ 9 d)
+  pub shows_as : {v : Verdict} → r.verdict ≡ v → shown_as (numbered v) other ≡ what_is_shown commands lengths g σ
+  shows_as e = ap (λ (v : Verdict). shown_as (numbered v) other) (sym e) ∙ by_verdict
+
+  pub shows_other : ((c : ℕ) → r.verdict ≡ V.Mismatch c → ⊥) → ((c : ℕ) → r.verdict ≡ V.Blocked c → ⊥) → ((b : ℕ) → r.verdict ≡ V.StillSet b → ⊥)
+      → other ≡ what_is_shown commands lengths g σ
+  shows_other a b d = none_said r.verdict a b d other ∙ by_verdict

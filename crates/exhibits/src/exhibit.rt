@@ -8,7 +8,7 @@ ghost use Rattle.rooms.specs.Rooms.{number_at};
 ghost use Rattle.rooms.specs.Needs.{Roomy};
 ghost use Rattle.replay.specs.Writer.{apart_schedule};
 ghost use Rattle.steps.specs.Writing.{FilledBy};
-ghost use Rattle.printing.specs.Putting.{Puts};
+ghost use Rattle.printing.specs.Putting.{Prints};
 ghost use Rattle.exhibits.specs.Exhibits.{reuse_exhibit, order_exhibit, race_exhibits, exhibited};
 
 use crate::shown::shown_by;
@@ -31,17 +31,17 @@ fn fill_apart(tables: Tables, relation: &[u32], c: usize, d: usize, room: &mut [
 
 // Two tables that pass, with the generation of each command and what it reaches.
 #[derive(Clone, Copy)]
-struct Admitted<'a> {
+struct Exhibitor<'a> {
     tables: Tables<'a>,
     generations: &'a [u32],
     relation: &'a [u32],
     ghost roomy: { Roomy tables.commands.now tables.lengths.now generations.now relation.now },
 }
 
-impl Admitted<'_> {
+impl Exhibitor<'_> {
     // Of a race, x first.
     fn put_way(&self, out: &mut Printer<'_>, x: usize, y: usize)
-        ensures { Puts out.old out.new (order_exhibit self.now.tables.commands.now self.now.tables.lengths.now
+        ensures { Prints out.old out.new (order_exhibit self.now.tables.commands.now self.now.tables.lengths.now
             (related self.now.relation.now (rows self.now.tables.commands.now)) x y) }
     {
         let mut schedule = [0u32; Table::ROWS];
@@ -50,9 +50,10 @@ impl Admitted<'_> {
         put_steps(out, &schedule[..steps]);
     }
 
-    // Of a reuse fault (c, d), judged against the generations. No one function with `put_way`: its line hangs on the schedule, and a closure that takes that is no shorter.
+    // Of a reuse fault (c, d), judged against the generations.
+    // No one function with `put_way`: its line hangs on the schedule, and a closure that takes that is no shorter.
     fn put_reuse(&self, out: &mut Printer<'_>, c: usize, d: usize)
-        ensures { Puts out.old out.new (reuse_exhibit self.now.tables.commands.now self.now.tables.lengths.now
+        ensures { Prints out.old out.new (reuse_exhibit self.now.tables.commands.now self.now.tables.lengths.now
             (related self.now.relation.now (rows self.now.tables.commands.now))
             (number_at self.now.generations.now) (pair c d)) }
     {
@@ -65,7 +66,7 @@ impl Admitted<'_> {
 
     // Of each pair that a sheet keeps, both ways.
     fn put_races(&self, out: &mut Printer<'_>, sheet: Sheet)
-        ensures { Puts out.old out.new (race_exhibits self.now.tables.commands.now self.now.tables.lengths.now
+        ensures { Prints out.old out.new (race_exhibits self.now.tables.commands.now self.now.tables.lengths.now
             (related self.now.relation.now (rows self.now.tables.commands.now)) (kept_pairs sheet)) }
     {
         for pair in &sheet.pairs[..kept(sheet.total)] {
@@ -85,17 +86,18 @@ pub fn put_exhibits(
     number: u32,
     sheet: Sheet,
 )
-    ensures { Puts out.old out.new
+    ensures { Prints out.old out.new
         (exhibited tables.entry.commands.now tables.entry.lengths.now generations.now relation.now number sheet) }
 {
     if !admits(tables, relation.len(), generations.len()) {
         return;
     }
-    let admitted = Admitted {
+    let admitted = Exhibitor {
         tables,
         generations,
         relation,
     };
+    // By the number: `put_exhibits` answers for any, also for one that no verdict has.
     match number {
         10 => {
             let pair = sheet.pairs[0];

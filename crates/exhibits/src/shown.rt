@@ -2,32 +2,12 @@
 ghost use Rattle.std.specs.Prelude.{◌≡◌, ◌≤◌, length};
 ghost use Rattle.rooms.specs.Rooms.{number_at};
 ghost use Rattle.exhibits.specs.Shown.{other_generation_of, what_is_shown};
-ghost use Rattle.exhibits.specs.Needs.{Ended, Offered};
+ghost use Rattle.exhibits.specs.Needs.{Offered};
 
 use replay::judge;
-use tables::{Table, Tables};
-use verdicts::Told;
+use tables::Tables;
+use verdicts::Verdict;
 use wording::Shown;
-
-// How a schedule ended, and the generation of each command that ran.
-#[derive(Clone, Copy)]
-struct End {
-    told: Told,
-    generations: [u32; Table::ROWS],
-}
-
-// The judge's verdict by its number: a caller of this is spared the verdict.
-fn end_of(tables: Tables, schedule: &[u32]) -> End
-    ensures { Ended tables.entry.commands.now tables.entry.lengths.now schedule.now result }
-{
-    let judged = judge(tables, schedule);
-    let verdict = judged.verdict;
-    let generations = judged.generations;
-    End {
-        told: verdict.told(),
-        generations,
-    }
-}
 
 // The lowest command whose generation is not the one offered, with both; or m, which `other_generation_of` says too: any sheet has its exhibits.
 fn other_generation(found: &[u32], offered: &[u32], m: usize) -> Shown
@@ -47,11 +27,11 @@ pub(crate) fn shown_by(tables: Tables, generations: &[u32], schedule: &[u32]) ->
     requires { Offered tables.commands.now tables.lengths.now generations.now }
     ensures { result ≡ what_is_shown tables.entry.commands.now tables.entry.lengths.now (number_at generations.now) schedule.now }
 {
-    let end = end_of(tables, schedule);
-    match end.told.number {
-        7 => Shown::Mismatch(end.told.place),
-        8 => Shown::Deadlock(end.told.place),
-        9 => Shown::LeftSet(end.told.place),
-        _ => other_generation(&end.generations, generations, tables.commands.len() / 3),
+    let judged = judge(tables, schedule);
+    match judged.verdict {
+        Verdict::Mismatch(command) => Shown::Mismatch(command),
+        Verdict::Blocked(command) => Shown::Deadlock(command),
+        Verdict::StillSet(barrier) => Shown::LeftSet(barrier),
+        _ => other_generation(&judged.generations, generations, tables.commands.len() / 3),
     }
 }

@@ -65,7 +65,7 @@ pub(crate) fn list(
 
 // The lists: the front of each, and the next after each command. Where there is none stands a number past all rows, so that a walk ends by one test.
 #[derive(Clone, Copy)]
-pub(crate) struct Listing<'a> {
+pub(crate) struct Trails<'a> {
     pub(crate) fault: Fault,
     pub(crate) searched: Searched<'a>,
     pub(crate) fronts: &'a [usize; Table::ROWS],
@@ -73,8 +73,9 @@ pub(crate) struct Listing<'a> {
     ghost lists: { Lists searched fault fronts.now nexts.now 0 },
 }
 
-impl Listing<'_> {
-    // The first candidate of outer number i. For reuse it is the front of the list of the generation before; for races, whose pairs go upward, it is the next after i.
+impl Trails<'_> {
+    // The first candidate of outer number i.
+    // For reuse it is the front of the list of the generation before; for races, whose pairs go upward, it is the next after i.
     pub(crate) fn first_candidate(&self, i: usize) -> usize
         requires { i < rows self.now.searched.commands.now }
         ensures { Candidate self.now.searched self.now.fault i 0 result }

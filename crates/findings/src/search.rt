@@ -8,14 +8,15 @@ ghost use Rattle.sheet.specs.Sheet.{sheet_of};
 ghost use Rattle.sheet.specs.Needs.{add_all};
 ghost use Rattle.findings.specs.Needs.{row_found, all_found};
 
-use crate::lists::{Listing, list};
+use crate::lists::{Trails, list};
 use crate::searched::Searched;
 use faults::{Fault, pair_of};
 use sheet::{Sheet, add_to};
 use tables::Table;
 
-// The faults of outer number i, added to a sheet. A pair is made only while the sheet has room: to copy it costs more than to find the pair.
-fn add_row(listing: &Listing, i: usize, sheet: &mut Sheet)
+// The faults of outer number i, added to a sheet.
+// Past its room only the total goes up: `add_to` copies the sheet, and that costs more than to find the pair (docs/DECISIONS.md, 'When is a pair added').
+fn add_row(listing: &Trails, i: usize, sheet: &mut Sheet)
     requires { (sheet.old.total ≤ most_rows * most_rows) × (i < rows listing.now.searched.commands.now) }
     ensures { sheet.new ≡ add_all sheet.old (row_found listing.now.searched listing.now.fault i) }
 {
@@ -40,7 +41,7 @@ pub(crate) fn search(fault: Fault, searched: &Searched) -> Sheet
     let mut fronts = [Table::ROWS; Table::ROWS];
     let mut nexts = [Table::ROWS; Table::ROWS];
     list(fault, searched, &mut fronts, &mut nexts);
-    let listing = Listing {
+    let listing = Trails {
         fault,
         searched: *searched,
         fronts: &fronts,

@@ -19,7 +19,8 @@ pub enum State {
     Parting,
 }
 
-// What a token does: it doesn't fit; it leads on; it completes a row, or a thread. A refusal is one of four that are matched at once, which an Option would take two matches for.
+// What a token does: it doesn't fit; it leads on; it completes a row, or a thread.
+// A refusal is one of four that are matched at once, which an Option would take two matches for.
 #[derive(Clone, Copy)]
 pub enum TokenMove {
     Refuse,

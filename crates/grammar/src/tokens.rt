@@ -28,8 +28,8 @@ pub(crate) struct Piece {
     pub(crate) size: usize,
 }
 
-// What stands at a place after its blanks: the end, or a token with its first byte's place and the place past it. An end has a place, and is no error: neither an Option
-// nor a Result says so.
+// What stands at a place after its blanks: the end, or a token with its first byte's place and the place past it.
+// An end has a place, and is no error: neither an Option nor a Result says so.
 #[derive(Clone, Copy)]
 pub enum Met {
     End(usize),

@@ -12,8 +12,9 @@ ghost use Rattle.happens.specs.Needs.{does_meet_row, follows};
 use tables::{Table, is_first, same_name};
 
 // Commands, the generations that are offered for them, and the heads of the rows.
+// `Searched` of findings is these with a relation: neither crate knows the other, and one struct for both would be public, with a promise of its own.
 #[derive(Clone, Copy)]
-pub(crate) struct Offered<'a> {
+pub(crate) struct Presented<'a> {
     pub(crate) commands: &'a [u32],
     pub(crate) generations: &'a [u32],
     pub(crate) heads: &'a [usize; Table::ROWS],
@@ -21,7 +22,7 @@ pub(crate) struct Offered<'a> {
     ghost whole: { rows commands.now ≤ length generations.now },
 }
 
-impl Offered<'_> {
+impl Presented<'_> {
     // So many commands there are.
     pub(crate) fn rows(&self) -> usize
         ensures { result ≡ rows self.now.commands.now }

@@ -5,15 +5,16 @@ ghost use Rattle.rooms.specs.Needs.{Ample};
 ghost use Rattle.happens.specs.HappensBefore.{Reached};
 ghost use Rattle.happens.specs.Promise.{PutsHappensBefore};
 
-use crate::edges::Offered;
+use crate::edges::Presented;
 use crate::leaders::{SEATS, choose};
-use crate::pairs::{Listed, NUMBERS, put_pairs};
+use crate::pairs::{NUMBERS, PairList, put_pairs};
 use rooms::refuse_sizes;
 use sweeps::put_reach;
 use tables::{Table, Tables, put_heads};
 use verdicts::Refusal;
 
-// The rooms suffice: pairs are listed, and what they reach is happens-before. A seat that nobody takes holds no row's number, where an Option would make this room twice as large.
+// The rooms suffice: pairs are listed, and what they reach is happens-before. A seat that nobody takes holds no row's number:
+// with an Option the seats would be 32 KB, and to fill those takes as long as a tenth of a review of 64 commands (docs/DECISIONS.md, 'How many seats').
 fn put_reached(tables: Tables, generations: &[u32], relation: &mut [u32])
     requires { Ample tables.commands.now (length relation.old) (length generations.now) }
     ensures { Reached tables.entry.commands.now tables.entry.lengths.now (number_at generations.now)
@@ -21,14 +22,14 @@ fn put_reached(tables: Tables, generations: &[u32], relation: &mut [u32])
 {
     let mut heads = [0; Table::ROWS];
     put_heads(tables.lengths, &mut heads);
-    let offered = Offered {
+    let offered = Presented {
         commands: tables.commands,
         generations,
         heads: &heads,
     };
     let mut leaders = [Table::ROWS as u16; SEATS];
     choose(&offered, &mut leaders);
-    let mut listed = Listed {
+    let mut listed = PairList {
         numbers: [0; NUMBERS],
         count: 0,
         parts: [0; Table::THREADS],

@@ -5,14 +5,14 @@ ghost use Rattle.std.specs.Prelude.{◌≡◌, ◌<◌};
 ghost use Rattle.tables.specs.Rows.{rows};
 ghost use Rattle.happens.specs.Needs.{seats, seat, last_met_of, Seated, leader};
 
-use crate::edges::Offered;
+use crate::edges::Presented;
 use tables::Table;
 
 // A seat for each barrier and each generation that a review can have.
 pub(crate) const SEATS: usize = Table::ROWS * Table::BARRIERS;
 
 // The seat of c's barrier and generation.
-fn seat(offered: &Offered, c: usize) -> usize
+fn seat(offered: &Presented, c: usize) -> usize
     requires { c < rows offered.now.commands.now }
     ensures { (result ≡ seat offered.now.commands.now offered.now.generations.now c) × (result < seats) }
 {
@@ -21,7 +21,7 @@ fn seat(offered: &Offered, c: usize) -> usize
 }
 
 // Each sync takes its seat, the last of a barrier and generation for good.
-pub(crate) fn choose(offered: &Offered, leaders: &mut [u16; SEATS])
+pub(crate) fn choose(offered: &Presented, leaders: &mut [u16; SEATS])
     ensures { Seated offered.now.commands.now offered.now.generations.now leaders.new
         (rows offered.now.commands.now) }
 {
@@ -33,7 +33,7 @@ pub(crate) fn choose(offered: &Offered, leaders: &mut [u16; SEATS])
 }
 
 // The last sync that c meets.
-fn last_met(offered: &Offered, c: usize) -> Option<usize>
+fn last_met(offered: &Presented, c: usize) -> Option<usize>
     ensures { result ≡ last_met_of offered.now.commands.now offered.now.generations.now c }
 {
     for j in (0..offered.rows()).rev() {
@@ -44,8 +44,9 @@ fn last_met(offered: &Offered, c: usize) -> Option<usize>
     None
 }
 
-// The leader of c's barrier and generation, if c meets a sync. Only where generations are larger than a review's can another sit in its seat, and then all rows are looked through.
-pub(crate) fn leader(offered: &Offered, leaders: &[u16; SEATS], c: usize) -> Option<usize>
+// The leader of c's barrier and generation, if c meets a sync.
+// Only where generations are larger than a review's can another sit in its seat, and then all rows are looked through.
+pub(crate) fn leader(offered: &Presented, leaders: &[u16; SEATS], c: usize) -> Option<usize>
     requires { c < rows offered.now.commands.now }
     ensures { result ≡ leader offered.now.commands.now offered.now.generations.now leaders.now c }
 {

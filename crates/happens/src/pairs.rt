@@ -6,16 +6,17 @@ ghost use Rattle.tables.specs.Limits.{most_rows};
 ghost use Rattle.tables.specs.Rows.{rows};
 ghost use Rattle.happens.specs.Needs.{Led, Draws, DrawsBelow, Adds, OnePair};
 
-use crate::edges::Offered;
+use crate::edges::Presented;
 use crate::leaders::{SEATS, leader};
 use tables::Table;
 
 // Two numbers for a pair, and three pairs for a command.
 pub(crate) const NUMBERS: usize = 6 * Table::ROWS;
 
-// The pairs, as `put_reach` takes them, and how many there are; and the parts, each told by the pair that it ends before. There is no heap, so both rooms have their length beside them.
+// The pairs, as `put_reach` takes them, and how many there are; and the parts, each told by the pair that it ends before.
+// There is no heap, so both rooms have their length beside them.
 #[derive(Drop)]
-pub(crate) struct Listed {
+pub(crate) struct PairList {
     pub(crate) numbers: [u32; NUMBERS],
     pub(crate) count: usize,
     pub(crate) parts: [u32; Table::THREADS],
@@ -23,7 +24,7 @@ pub(crate) struct Listed {
     ghost fits: { count ≤ 3 * most_rows },
 }
 
-impl Listed {
+impl PairList {
     // The pair (i, k) is put after the others.
     fn push(&mut self, i: usize, k: usize)
         requires { (self.old.count < 3 * most_rows) × (i < most_rows) × (k < most_rows) }
@@ -48,7 +49,7 @@ impl Listed {
 }
 
 // The pairs of command c and its leader.
-fn put_leader(offered: &Offered, leaders: &[u16; SEATS], c: usize, listed: &mut Listed)
+fn put_leader(offered: &Presented, leaders: &[u16; SEATS], c: usize, listed: &mut PairList)
     requires { (listed.old.count + 2 ≤ 3 * most_rows) × (c < rows offered.now.commands.now) }
     ensures { Adds 2 (Led offered.now.commands.now offered.now.generations.now leaders.now c)
         listed.old.numbers listed.new.numbers listed.old.count listed.new.count }
@@ -62,7 +63,7 @@ fn put_leader(offered: &Offered, leaders: &[u16; SEATS], c: usize, listed: &mut 
 }
 
 // The pairs of command c. A sweep goes from the last pair on, so that the next command, which stands last, is joined first.
-fn put_command(offered: &Offered, leaders: &[u16; SEATS], c: usize, listed: &mut Listed)
+fn put_command(offered: &Presented, leaders: &[u16; SEATS], c: usize, listed: &mut PairList)
     requires { (listed.old.count + 3 ≤ 3 * most_rows) × (c < rows offered.now.commands.now) }
     ensures { Adds 3 (Draws offered.now.commands.now offered.now.generations.now
         offered.now.heads.now leaders.now c)
@@ -75,7 +76,7 @@ fn put_command(offered: &Offered, leaders: &[u16; SEATS], c: usize, listed: &mut
 }
 
 // The pairs of all commands, into a list that has none.
-pub(crate) fn put_pairs(offered: &Offered, leaders: &[u16; SEATS], listed: &mut Listed)
+pub(crate) fn put_pairs(offered: &Presented, leaders: &[u16; SEATS], listed: &mut PairList)
     requires { listed.old.count ≡ 0 }
     ensures { Adds (3 * rows offered.now.commands.now)
         (DrawsBelow offered.now.commands.now offered.now.generations.now

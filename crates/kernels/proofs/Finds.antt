@@ -10,7 +10,7 @@ use borrow.Author.Tests.{lt-ltb, le-ltb}
 use mathlib.Core.Bool.{cond, not}
 use Rattle.std.specs.Prelude.{Option, Some, None}
 use Rattle.std.specs.Option.{is_some}
-use Rattle.tables.specs.Lowest.{lowest, below, found}
+use Rattle.tables.specs.Lowest.{lowest, if_below, found}
 use Rattle.tables.proofs.Scans.{Scanned, scan_found, scan_end}
 
 module _ (p : ℕ → Bool) {n i : ℕ} (s : Scanned p n i) where
@@ -21,13 +21,13 @@ pub some_none : (p : ℕ → Bool) (n : ℕ) → ((k : ℕ) → k < n → p k �
 some_none p n f = some_end p (record { within = omega arith; none = f }) (omega arith)
 
 pub found_first : (p : ℕ → Bool) (n : ℕ) {i : ℕ} → i < n → ((k : ℕ) → k < i → p k ≡ false) → p i ≡ true → Some i ≡ found p n
-unfolding below
+unfolding if_below
 found_first p n {i} l f e =
     let q : i ≡ lowest p n = scan_found p (record { within = omega arith; none = f }) e in
     ap Some q ∙ sym (rw (lt-ltb (lowest p n) n (omega arith)))
 
 pub found_none : (p : ℕ → Bool) (n : ℕ) → ((k : ℕ) → k < n → p k ≡ false) → None ≡ found p n
-unfolding below
+unfolding if_below
 found_none p n f = sym (rw (some_none p n f))
 
 pub not_twice : {a b : Bool} → a ≡ not b → b ≡ not a
@@ -40,18 +40,18 @@ some_cond true i = refl
 some_cond false i = refl
 
 pub is_found : (p : ℕ → Bool) (n : ℕ) {r : Option ℕ} → r ≡ found p n → is_some r ≡ ltb (lowest p n) n
-unfolding below
+unfolding if_below
 is_found p n e = ap is_some e ∙ some_cond (ltb (lowest p n) n) (lowest p n)
 
 pub found_at : (p : ℕ → Bool) (n : ℕ) {i : ℕ} → Some i ≡ found p n → (i ≡ lowest p n) × (i < n)
-unfolding below
+unfolding if_below
 found_at p n {i} e =
     by_cases (dec_lt (lowest p n) n)
     (λ (l : lowest p n < n). let q : Some i ≡ Some (lowest p n) = e ∙ rw (lt-ltb _ _ l) in let s : i ≡ lowest p n = cc in (s, omega arith))
     (λ (m : ¬ (lowest p n < n)). let q : Some i ≡ None = e ∙ rw (le-ltb (lowest p n) n (omega arith)) in absurd (let z : ◌≡◌ {A = ℕ} 0 1 = cc in omega arith))
 
 pub found_past : (p : ℕ → Bool) (n : ℕ) → None ≡ found p n → n ≤ lowest p n
-unfolding below
+unfolding if_below
 found_past p n e =
     by_cases (dec_lt (lowest p n) n)
     (λ (l : lowest p n < n). let q : Some (lowest p n) ≡ None = sym (e ∙ rw (lt-ltb _ _ l)) in absurd (let z : ◌≡◌ {A = ℕ} 0 1 = cc in omega arith))

@@ -12,7 +12,9 @@ use lib.Dec.{eqb}
 use lib.ListN.{get_or, length, set, length-set}
 use lib.Seq.{get_or-set_same, get_or-set_other}
 use Rattle.kernels.specs.Rows.{list_of}
+use Rattle.machine.specs.declared.stack.Tower.{Tower}
 use Rattle.machine.specs.Entries.{Entry, row, again, token, again_from, tokens_from, entry_of, stack_in, from_token, pile}
+use Rattle.machine.specs.Needs.{entries, Stays, Holds}
 
 pub held_long : (a : List ℕ) (n : ℕ) → length (stack_in a n) ≡ n
 unfolding stack_in
@@ -79,42 +81,56 @@ module _ (s : List ℕ) (b n i : ℕ) (W : List Entry) (h : 0 < n) where
   unfolding pile
   pile_one = let e : n ≡ suc (n - 1) = omega arith in subst (λ (k : ℕ). pile s k i b W ≡ cond (eqb (list_of s i) b) (row i ∷ pile s (n - 1) (suc i) b W) (pile s (n - 1) (suc i) b W)) (sym e) refl
 
--- n rows, of which those from i on are piled over W in a room of L numbers
-pub record Piled (s : List ℕ) (b n L height : ℕ) (W : List Entry) (a : List ℕ) (i d : ℕ) : Type 0 where
-  pub long : length a ≡ L
+-- n rows, of which those from i on are piled over what a stack was
+pub record Piled (s : List ℕ) (b n : ℕ) (t u : Tower) (i : ℕ) : Type 0 where
+  pub stays : Stays t u
   pub low : i ≤ n
-  pub up : d + i ≤ height + n
-  pub is : stack_in a d ≡ pile s (n - i) i b W
+  pub up : u.height + i ≤ t.height + n
+  pub is : entries u ≡ pile s (n - i) i b (entries t)
 
-module _ (s : List ℕ) (b n L height : ℕ) (W : List Entry) where
-  pub piled_start : (a : List ℕ) → length a ≡ L → stack_in a height ≡ W → Piled s b n L height W a n height
+module _ (s : List ℕ) (b n : ℕ) (t : Tower) where
+  pub piled_start : Piled s b n t t n
   unfolding pile
-  piled_start a l e = record { long = l; low = omega arith; up = omega arith; is = let z : n - n ≡ 0 = omega arith in rw z e }
+  piled_start = record { stays = record { same = refl; long = refl }; low = omega arith; up = omega arith; is = let z : n - n ≡ 0 = omega arith in rw z refl }
 
-  module _ (a : List ℕ) (i d : ℕ) (P : Piled s b n L height W a i d) (h : 0 < i) where
-    here : stack_in a d ≡ pile s (n - (i - 1) - 1) (suc (i - 1)) b W
+  module _ (u : Tower) (i : ℕ) (P : Piled s b n t u i) (h : 0 < i) where
+    here : entries u ≡ pile s (n - (i - 1) - 1) (suc (i - 1)) b (entries t)
     here =
         let shift : n - i ≡ n - (i - 1) - 1 = omega (arith, P.low) in
         let back : suc (i - 1) ≡ i = omega arith in
-        P.is ∙ ap₂ (λ (k j : ℕ). pile s k j b W) shift (sym back)
+        P.is ∙ ap₂ (λ (k j : ℕ). pile s k j b (entries t)) shift (sym back)
 
-    pub piled_hit : n ≤ 256 → height + 256 ≤ L → list_of s (i - 1) ≡ b → Piled s b n L height W (set a d (i - 1)) (i - 1) (d + 1)
-    piled_hit l m e =
+    -- row i - 1 is stored on top
+    pub piled_hit : n ≤ 256 → t.height + 256 ≤ length t.room.now → list_of s (i - 1) ≡ b → (v : Tower) → v.room.ghost_name ≡ u.room.ghost_name
+        → v.room.now ≡ set u.room.now u.height (i - 1) → v.height ≡ u.height + 1 → Piled s b n t v (i - 1)
+    piled_hit l m e v g q r =
         let w : i ≤ n = P.low in
-        let u : d + i ≤ height + n = P.up in
-        let v : length a ≡ L = P.long in
+        let o : u.height + i ≤ t.height + n = P.up in
+        let k : length u.room.now ≡ length t.room.now = P.stays.long in
         record {
-          long = length-set a d (i - 1) ∙ P.long;
+          stays = record { same = g ∙ P.stays.same; long = ap length q ∙ length-set u.room.now u.height (i - 1) ∙ k };
           low = omega arith;
           up = omega arith;
-          is = held_push a d (i - 1) (omega arith) ∙ ap₂ ◌∷◌ (entry_row (i - 1) (omega arith)) here ∙ sym (pile_one s b (n - (i - 1)) (i - 1) W (omega arith) ∙ rw (eq-eqb (list_of s (i - 1)) b e));
+          is =
+              ap₂ stack_in q r
+              ∙ held_push u.room.now u.height (i - 1) (omega arith)
+              ∙ ap₂ ◌∷◌ (entry_row (i - 1) (omega arith)) here
+              ∙ sym (pile_one s b (n - (i - 1)) (i - 1) (entries t) (omega arith) ∙ rw (eq-eqb (list_of s (i - 1)) b e));
         }
 
-    pub piled_miss : list_of s (i - 1) ≢ b → Piled s b n L height W a (i - 1) d
+    pub piled_miss : list_of s (i - 1) ≢ b → Piled s b n t u (i - 1)
     piled_miss e =
         let w : i ≤ n = P.low in
-        let u : d + i ≤ height + n = P.up in
-        record { long = P.long; low = omega arith; up = omega arith; is = here ∙ sym (pile_one s b (n - (i - 1)) (i - 1) W (omega arith) ∙ rw (ne_eqb (list_of s (i - 1)) b e)) }
+        let o : u.height + i ≤ t.height + n = P.up in
+        record {
+          stays = P.stays;
+          low = omega arith;
+          up = omega arith;
+          is = here ∙ sym (pile_one s b (n - (i - 1)) (i - 1) (entries t) (omega arith) ∙ rw (ne_eqb (list_of s (i - 1)) b e));
+        }
 
-  pub piled_end : (a : List ℕ) (i d : ℕ) → Piled s b n L height W a i d → i ≤ 0 → stack_in a d ≡ pile s n 0 b W
-  piled_end a i d P h = let z : i ≡ 0 = omega arith in let y : n - 0 ≡ n = omega arith in P.is ∙ rw (z, y)
+  pub piled_end : (u : Tower) (i : ℕ) → Piled s b n t u i → i ≤ 0 → n ≤ 256 → Holds t u 256 (pile s n 0 b (entries t))
+  piled_end u i P h l =
+      let z : i ≡ 0 = omega arith in
+      let y : n - 0 ≡ n = omega arith in
+      record { stays = P.stays; up = omega (arith, P.up); held = P.is ∙ rw (z, y) }

@@ -32,9 +32,6 @@ warp W L μ = record { stack = W; lanes = L; cells = μ }
 same : {W₁ W₂ : List Entry} {L₁ L₂ : Lanes} {μ₁ μ₂ : Mem} → W₁ ≡ W₂ → L₁ ≡ L₂ → μ₁ ≡ μ₂ → warp W₁ L₁ μ₁ ≡ warp W₂ L₂ μ₂
 same p q r = λ j. record { stack = p j; lanes = q j; cells = r j }
 
-pub by_entry : (s : List ℕ) (x A : ℕ) (W W₁ W₂ : List Entry) → W₁ ≡ token call_token A ∷ W → W₂ ≡ list_over s x W₁ → W₂ ≡ list_over s x (token call_token A ∷ W)
-by_entry s x A W W₁ W₂ p q = q ∙ ap (list_over s x) p
-
 -- ---- a statement, by its kind: as the code comes to it, a number past the kinds is a return
 module _ (s e : List ℕ) (i : ℕ) (r : Option StatementKind) (k : StatementKind) (er : r ≡ statement_kind (kind_of s i)) (ek : k ≡ unwrap_or r Return) where
   kind_number : (m : StatementKind) → k ≡ m → (m ≡ Return → ⊥) → kind_of s i ≡ statement_number m

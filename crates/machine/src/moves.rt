@@ -1,10 +1,10 @@
 // The start and the step, for any numbers in any room.
 ghost use Rattle.std.specs.Prelude.{◌≡◌};
-ghost use Rattle.machine.specs.Needs.{CanStep};
-ghost use Rattle.machine.specs.Step.{next_warp, warp_of, workable, StartsWarp, StepsWarp};
+ghost use Rattle.machine.specs.Needs.{CanStep, warp_in, Becomes};
+ghost use Rattle.machine.specs.Step.{next_warp, workable, StartsWarp, StepsWarp};
 
 use crate::rules::{Obeyed, enter};
-use crate::stack::{Stack, StackEntry, Stand, drop_rows};
+use crate::stack::{Stack, StackEntry, Stand, Tower};
 use kernels::Kernel;
 use lanes::{Lanes, all_of};
 
@@ -27,14 +27,15 @@ pub fn start_warp(code: &[u32], lanes: u32, stack: &mut [u64]) -> Stand
         returned: 0,
     };
     if fits(code, stack, 0) {
-        let all = all_of(lanes);
-        let top = enter(code, 0, all, stack, 0);
+        let mut tower = Tower {
+            room: stack,
+            height: 0,
+        };
+        let active = all_of(lanes);
+        enter(&mut tower, code, 0, active);
         return Stand {
-            height: top,
-            lanes: Lanes {
-                active: all,
-                ..none
-            },
+            height: tower.height,
+            lanes: Lanes { active, ..none },
         };
     }
     Stand {
@@ -45,29 +46,22 @@ pub fn start_warp(code: &[u32], lanes: u32, stack: &mut [u64]) -> Stand
 
 // One step, by the topmost entry.
 fn move_on(
+    tower: &mut Tower<'_>,
     code: &[u32],
     expressions: &[u32],
-    stand: Stand,
-    stack: &mut [u64],
+    lanes: Lanes,
     cells: &mut [u32],
-) -> Stand
-    requires { CanStep code.now stack.old stand.height }
-    ensures { warp_of stack.new result cells.new
-        ≡ next_warp code.now expressions.now (warp_of stack.old stand cells.old) }
+) -> Lanes
+    requires { CanStep code.now tower.old }
+    ensures { Becomes tower.old tower.new result cells.new
+        (next_warp code.now expressions.now (warp_in tower.old lanes cells.old)) }
 {
-    let lanes = stand.lanes;
-    if stand.height == 0 {
-        return stand;
+    if tower.height == 0 {
+        return lanes;
     }
-    let under = stand.height - 1;
-    match StackEntry::of(stack[under]) {
-        StackEntry::Token(kind, mask) => {
-            let lanes = lanes.wake(kind, mask);
-            Stand {
-                height: under,
-                lanes: lanes,
-            }
-        }
+    tower.height -= 1;
+    match StackEntry::of(tower.room[tower.height]) {
+        StackEntry::Token(kind, mask) => lanes.wake(kind, mask),
         StackEntry::Row(i) if lanes.active != 0 => {
             let row = Obeyed {
                 code,
@@ -75,7 +69,7 @@ fn move_on(
                 i,
                 lanes,
             };
-            row.obey(stack, under, cells)
+            row.obey(tower, cells)
         }
         StackEntry::Again(i) if lanes.active != 0 => {
             let row = Obeyed {
@@ -84,11 +78,13 @@ fn move_on(
                 i,
                 lanes,
             };
-            row.repeat(stack, stand.height, cells)
+            // the while stays on top
+            tower.height += 1;
+            row.repeat(tower, cells)
         }
         _ => {
-            let height = drop_rows(stack, under);
-            Stand { height, lanes }
+            tower.drop_rows();
+            lanes
         }
     }
 }
@@ -105,7 +101,15 @@ pub fn step_warp(
         stack.new cells.new result }
 {
     if fits(code, stack, stand.height) {
-        return move_on(code, expressions, stand, stack, cells);
+        let mut tower = Tower {
+            room: stack,
+            height: stand.height,
+        };
+        let lanes = move_on(&mut tower, code, expressions, stand.lanes, cells);
+        return Stand {
+            height: tower.height,
+            lanes,
+        };
     }
     stand
 }

@@ -5,11 +5,11 @@ ghost use Rattle.lanes.specs.Words.{call_token, highest_of};
 ghost use Rattle.kernels.specs.Limits.{most_statements};
 ghost use Rattle.kernels.specs.Rows.{statements, x_of, y_of};
 ghost use Rattle.values.specs.Expressions.{expression, acting};
-ghost use Rattle.machine.specs.Entries.{token, stack_in, list_over};
-ghost use Rattle.machine.specs.Needs.{CanStep};
-ghost use Rattle.machine.specs.Step.{parted, looping, repeating, obey, warp_of};
+ghost use Rattle.machine.specs.Entries.{token, list_over};
+ghost use Rattle.machine.specs.Needs.{CanStep, entries, Holds, Becomes};
+ghost use Rattle.machine.specs.Step.{parted, looping, repeating, obey};
 
-use crate::stack::{StackEntry, Stand, drop_rows, push_list, put};
+use crate::stack::{StackEntry, Tower};
 use kernels::StatementKind;
 use lanes::{Lanes, TokenKind, highest};
 use relation::at;
@@ -61,86 +61,82 @@ impl<'a> Obeyed<'a> {
     }
 
     // (if): the second list, a div token with the lanes that pass, the first list, a sync token.
-    fn divide(self, stack: &mut [u64], height: usize, cells: &[u32]) -> Stand
-        requires { CanStep self.code.now stack.old height × (self.i < 256) }
-        ensures { warp_of stack.new result cells.now
-            ≡ parted self.entry.code.now self.entry.expressions.now self.entry.i (stack_in stack.old height) self.entry.lanes cells.now }
+    fn divide(self, tower: &mut Tower<'_>, cells: &[u32]) -> Lanes
+        requires { CanStep self.code.now tower.old × (self.i < 256) }
+        ensures { Becomes tower.old tower.new result cells.now
+            (parted self.entry.code.now self.entry.expressions.now self.entry.i (entries tower.old) self.entry.lanes cells.now) }
     {
         let acting = self.acting(cells);
         let sync = StackEntry::Token(TokenKind::Sync as u32, self.lanes.active);
-        let joined = put(stack, height, sync);
-        let first = push_list(stack, joined, self.code, self.number(3));
+        tower.put(sync);
+        tower.push_list(self.code, self.number(3));
         let div = StackEntry::Token(TokenKind::Div as u32, acting);
-        let divided = put(stack, first, div);
-        let height = push_list(stack, divided, self.code, self.number(4));
-        let lanes = self.lanes.leave_out(acting);
-        Stand { height, lanes }
+        tower.put(div);
+        tower.push_list(self.code, self.number(4));
+        self.lanes.leave_out(acting)
     }
 
     // (while, underlined): the body once more, over the loop, which stays on top.
-    pub(crate) fn repeat(self, stack: &mut [u64], height: usize, cells: &[u32]) -> Stand
-        requires { (height + 256 ≤ length stack.old) × (statements self.code.now ≤ most_statements) × (self.i < 256) }
-        ensures { warp_of stack.new result cells.now
-            ≡ repeating self.entry.code.now self.entry.expressions.now self.entry.i (stack_in stack.old height) self.entry.lanes cells.now }
+    pub(crate) fn repeat(self, tower: &mut Tower<'_>, cells: &[u32]) -> Lanes
+        requires { (tower.old.height + 256 ≤ length tower.old.room.now) × (statements self.code.now ≤ most_statements) × (self.i < 256) }
+        ensures { Becomes tower.old tower.new result cells.now
+            (repeating self.entry.code.now self.entry.expressions.now self.entry.i (entries tower.old) self.entry.lanes cells.now) }
     {
         let acting = self.acting(cells);
-        let height = push_list(stack, height, self.code, self.number(3));
-        let lanes = self.lanes.only(acting);
-        Stand { height, lanes }
+        tower.push_list(self.code, self.number(3));
+        self.lanes.only(acting)
     }
 
     // (while): a brk token, and over it the loop, which has begun, with its body.
-    fn enter_loop(self, stack: &mut [u64], height: usize, cells: &[u32]) -> Stand
-        requires { CanStep self.code.now stack.old height × (self.i < 256) }
-        ensures { warp_of stack.new result cells.now
-            ≡ looping self.entry.code.now self.entry.expressions.now self.entry.i (stack_in stack.old height) self.entry.lanes cells.now }
+    fn enter_loop(self, tower: &mut Tower<'_>, cells: &[u32]) -> Lanes
+        requires { CanStep self.code.now tower.old × (self.i < 256) }
+        ensures { Becomes tower.old tower.new result cells.now
+            (looping self.entry.code.now self.entry.expressions.now self.entry.i (entries tower.old) self.entry.lanes cells.now) }
     {
         let brk = StackEntry::Token(TokenKind::Brk as u32, self.lanes.active);
-        let left = put(stack, height, brk);
-        let begun = put(stack, left, StackEntry::Again(self.i));
-        self.repeat(stack, begun, cells)
+        tower.put(brk);
+        tower.put(StackEntry::Again(self.i));
+        self.repeat(tower, cells)
     }
 
     // The statement. A number past the kinds is a return.
-    pub(crate) fn obey(self, stack: &mut [u64], height: usize, cells: &mut [u32]) -> Stand
-        requires { CanStep self.code.now stack.old height × (self.i < 256) }
-        ensures { warp_of stack.new result cells.new
-            ≡ obey self.entry.code.now self.entry.expressions.now self.entry.i (stack_in stack.old height) self.entry.lanes cells.old }
+    pub(crate) fn obey(self, tower: &mut Tower<'_>, cells: &mut [u32]) -> Lanes
+        requires { CanStep self.code.now tower.old × (self.i < 256) }
+        ensures { Becomes tower.old tower.new result cells.new
+            (obey self.entry.code.now self.entry.expressions.now self.entry.i (entries tower.old) self.entry.lanes cells.old) }
     {
         let lanes = self.lanes;
         let kind = StatementKind::of(self.number(1)).unwrap_or(StatementKind::Return);
         match kind {
-            StatementKind::Skip => Stand { height, lanes },
+            StatementKind::Skip => lanes,
             StatementKind::Assign => {
                 self.assign(cells);
-                Stand { height, lanes }
+                lanes
             }
-            StatementKind::If => self.divide(stack, height, cells),
-            StatementKind::While => self.enter_loop(stack, height, cells),
+            StatementKind::If => self.divide(tower, cells),
+            StatementKind::While => self.enter_loop(tower, cells),
             StatementKind::Break => {
-                let height = drop_rows(stack, height);
-                let lanes = lanes.break_off();
-                Stand { height, lanes }
+                tower.drop_rows();
+                lanes.break_off()
             }
             StatementKind::Call => {
-                let height = enter(self.code, self.number(2), lanes.active, stack, height);
-                Stand { height, lanes }
+                enter(tower, self.code, self.number(2), lanes.active);
+                lanes
             }
             StatementKind::Return => {
-                let height = drop_rows(stack, height);
-                let lanes = lanes.give_up();
-                Stand { height, lanes }
+                tower.drop_rows();
+                lanes.give_up()
             }
         }
     }
 }
 
 // (call): the function's list, a call token.
-pub(crate) fn enter(code: &[u32], x: u32, active: u32, stack: &mut [u64], height: usize) -> usize
-    requires { CanStep code.now stack.old height }
-    ensures { stack_in stack.new result ≡ list_over code.now x (token call_token active ∷ stack_in stack.old height) }
+pub(crate) fn enter(tower: &mut Tower<'_>, code: &[u32], x: u32, active: u32)
+    requires { CanStep code.now tower.old }
+    ensures { Holds tower.old tower.new 257 (list_over code.now x (token call_token active ∷ entries tower.old)) }
 {
     let call = StackEntry::Token(TokenKind::Call as u32, active);
-    let back = put(stack, height, call);
-    push_list(stack, back, code, x)
+    tower.put(call);
+    tower.push_list(code, x);
 }

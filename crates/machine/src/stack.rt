@@ -1,10 +1,9 @@
 // The stack in its room: numbers below 256 are rows, the next 256 are whiles that have begun, all others are tokens.
-// Room and height stay two parameters: the room is the caller's (`step_warp`), and a struct that held it would ask each function for a second clause, that its `room.ghost_name` is kept.
-ghost use Rattle.std.specs.Prelude.{◌≡◌, ◌∷◌, ◌+◌, ◌≤◌, ◌<◌, length, get_or};
+ghost use Rattle.std.specs.Prelude.{◌≡◌, ◌∷◌, ◌+◌, ◌≤◌, ◌<◌, length};
 ghost use Rattle.kernels.specs.Limits.{most_statements};
 ghost use Rattle.kernels.specs.Rows.{statements};
-ghost use Rattle.machine.specs.Entries.{entry_of, stack_in, from_token, list_over};
-ghost use Rattle.machine.specs.Needs.{meant, Small};
+ghost use Rattle.machine.specs.Entries.{entry_of, from_token, list_over};
+ghost use Rattle.machine.specs.Needs.{meant, Small, entries, Holds};
 
 use lanes::Lanes;
 
@@ -65,40 +64,48 @@ impl StackEntry {
     }
 }
 
-// An entry goes onto the stack.
-pub(crate) fn put(stack: &mut [u64], height: usize, entry: StackEntry) -> usize
-    requires { (height < length stack.old) × Small entry }
-    ensures { (stack_in stack.new result ≡ meant entry ∷ stack_in stack.old height) × (result ≡ height + 1) }
-{
-    stack[height] = entry.number();
-    height + 1
+// The stack in a lent room, and how high it stands there.
+#[derive(Drop)]
+pub(crate) struct Tower<'a> {
+    pub(crate) room: &'a mut [u64],
+    pub(crate) height: usize,
 }
 
-// The rows of list b, the last first, so that the first lies on top.
-pub(crate) fn push_list(stack: &mut [u64], height: usize, code: &[u32], b: u32) -> usize
-    requires { (height + 256 ≤ length stack.old) × (statements code.now ≤ most_statements) }
-    ensures { (stack_in stack.new result ≡ list_over code.now b (stack_in stack.old height)) × (result ≤ height + 256) }
-{
-    let mut top = height;
-    for i in (0..code.len() / 5).rev() {
-        if code[5 * i] == b {
-            // `put` here makes a step on a full table take 1.5 times as long (bench/warps.c); a row's number is the row
-            stack[top] = i as u64;
-            top += 1;
-        }
+impl Tower<'_> {
+    // An entry goes onto the stack.
+    pub(crate) fn put(&mut self, entry: StackEntry)
+        requires { (self.old.height < length self.old.room.now) × Small entry }
+        ensures { Holds self.old self.new 1 (meant entry ∷ entries self.old) }
+    {
+        self.room[self.height] = entry.number();
+        self.height += 1;
     }
-    top
-}
 
-// The height without the statements above the topmost token.
-pub(crate) fn drop_rows(stack: &[u64], height: usize) -> usize
-    requires { height ≤ length stack.now }
-    ensures { (stack_in stack.now result ≡ from_token (stack_in stack.now height)) × (result ≤ height) }
-{
-    for i in (0..height).rev() {
-        if stack[i] >= Stack::TOKENS {
-            return i + 1;
+    // The rows of list b, the last first, so that the first lies on top.
+    pub(crate) fn push_list(&mut self, code: &[u32], b: u32)
+        requires { (self.old.height + 256 ≤ length self.old.room.now) × (statements code.now ≤ most_statements) }
+        ensures { Holds self.old self.new 256 (list_over code.now b (entries self.old)) }
+    {
+        for i in (0..code.len() / 5).rev() {
+            if code[5 * i] == b {
+                // `put` here makes a step on a full table take 1.5 times as long (bench/warps.c); a row's number is the row
+                self.room[self.height] = i as u64;
+                self.height += 1;
+            }
         }
     }
-    0
+
+    // Without the statements above the topmost token.
+    pub(crate) fn drop_rows(&mut self)
+        requires { self.old.height ≤ length self.old.room.now }
+        ensures { Holds self.old self.new 0 (from_token (entries self.old)) }
+    {
+        for i in (0..self.height).rev() {
+            if self.room[i] >= Stack::TOKENS {
+                self.height = i + 1;
+                return;
+            }
+        }
+        self.height = 0;
+    }
 }

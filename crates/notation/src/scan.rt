@@ -1,4 +1,5 @@
 // The two passes over a text: one judges it, and one writes the tables of a text that passed.
+// They are two because the first is lent no table: so a refused text changes nothing.
 ghost use Rattle.std.specs.Prelude.{◌≡◌, ◌+◌, ◌≤◌, length, set};
 ghost use Rattle.tables.specs.Over.{over};
 ghost use Rattle.notation.specs.Reading.{scanned_of, row_numbers, thread_lengths};
@@ -14,7 +15,7 @@ pub struct Sizes {
     pub threads: usize,
 }
 
-// The pass that judges a text; a refusal is its place. It is lent no table.
+// The pass that judges a text; a refusal is its place.
 pub(crate) fn scan(text: &[u8]) -> Result<Sizes, usize>
     ensures { result ≡ scanned_of text.now }
 {
@@ -58,7 +59,8 @@ fn put_row(commands: &mut [u32], at: usize, kind: u32, name: u32, count: u32)
     commands[at..at + 3].copy_from_slice(&[kind, name, count]);
 }
 
-// The pass that writes the tables of a text that was judged, into rooms that hold them. The loop goes over tokens, of which several make a row, so it counts where rows go.
+// The pass that writes the tables of a text that was judged, into rooms that hold them.
+// The loop goes over tokens, of which several make a row, so it counts where rows go.
 pub(crate) fn write(text: &[u8], commands: &mut [u32], lengths: &mut [u32])
     requires { Rooms text.now commands.old lengths.old }
     ensures { (commands.new ≡ over (row_numbers text.now) commands.old)

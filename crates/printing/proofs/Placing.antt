@@ -11,7 +11,7 @@ use lib.ListN.{length, set, take, get_or, length-append, length-set}
 use lib.Seq.{take-suc, set_out, sets, sets-eq, length-sets}
 use Rattle.tables.specs.Over.{over}
 use Rattle.printing.specs.declared.Printer.{Printer}
-use Rattle.printing.specs.Putting.{past, PutsBytes, Puts}
+use Rattle.printing.specs.Putting.{past, PutsBytes, Prints}
 
 -- ---- a run of stores
 
@@ -50,20 +50,20 @@ puts_bytes_on {before} {at = at} {a = a} {b} p q =
       on = omega (arith, p.on, q.on, ap length p.room, length-sets before at a, length-append a b);
     }
 
-pub puts_none : (p : Printer) → Puts p p []
+pub puts_none : (p : Printer) → Prints p p []
 puts_none p = record { puts = record { room = refl; on = omega arith }; same = refl }
 
-pub puts_on : {p q r : Printer} {a b : List ℕ} → Puts p q a → Puts q r b → Puts p r (a ++ b)
+pub puts_on : {p q r : Printer} {a b : List ℕ} → Prints p q a → Prints q r b → Prints p r (a ++ b)
 puts_on f g = record { puts = puts_bytes_on f.puts g.puts; same = g.same ∙ f.same }
 
-pub puts_as : {p q : Printer} {v w : List ℕ} → v ≡ w → Puts p q v → Puts p q w
+pub puts_as : {p q : Printer} {v w : List ℕ} → v ≡ w → Prints p q v → Prints p q w
 puts_as e f = rw e at f
 
 -- from the start of a room with place for them
-pub puts_over : {p q : Printer} {w : List ℕ} → p.at ≡ 0 → Puts p q w → length w ≤ length p.room.now → q.room.now ≡ over w p.room.now
+pub puts_over : {p q : Printer} {w : List ℕ} → p.at ≡ 0 → Prints p q w → length w ≤ length p.room.now → q.room.now ≡ over w p.room.now
 puts_over {p} {w = w} z f h = f.puts.room ∙ ap (λ (k : ℕ). sets p.room.now k w) z ∙ sets_over w p.room.now h
 
 -- ---- a list put byte by byte
 
-pub front_next : {p q r : Printer} (w : List ℕ) (i : ℕ) → Puts p q (take i w) → i < length w → Puts q r (get_or w i 0 ∷ []) → Puts p r (take (i + 1) w)
+pub front_next : {p q r : Printer} (w : List ℕ) (i : ℕ) → Prints p q (take i w) → i < length w → Prints q r (get_or w i 0 ∷ []) → Prints p r (take (i + 1) w)
 front_next w i f h g = rw (add-one i, take-suc w i 0 h) (puts_on f g)

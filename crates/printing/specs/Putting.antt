@@ -13,6 +13,6 @@ pub record PutsBytes (before after : List ℕ) (at : ℕ) (bytes : List ℕ) (ne
   pub on : next ≡ past (length before) at (length bytes)
 
 -- a printer has put the bytes, and stands on the room that it stood on
-pub record Puts (p q : Printer) (bytes : List ℕ) : Type 0 where
+pub record Prints (p q : Printer) (bytes : List ℕ) : Type 0 where
   pub puts : PutsBytes p.room.now q.room.now p.at bytes q.at
   pub same : q.room.ghost_name ≡ p.room.ghost_name

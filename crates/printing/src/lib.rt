@@ -3,7 +3,7 @@
 
 ghost use Rattle.std.specs.Prelude.{[], ◌∷◌, ◌++◌};
 ghost use Rattle.printing.specs.Figures.{figures};
-ghost use Rattle.printing.specs.Putting.{Puts};
+ghost use Rattle.printing.specs.Putting.{Prints};
 
 // A lent room, and where in it the next byte goes. What has no room is left out, and the place then stays at the room's end.
 #[derive(Drop)]
@@ -14,7 +14,7 @@ pub struct Printer<'a> {
 
 impl Printer<'_> {
     pub fn put_byte(&mut self, byte: u8)
-        ensures { Puts self.old self.new (byte ∷ []) }
+        ensures { Prints self.old self.new (byte ∷ []) }
     {
         if self.at < self.room.len() {
             self.room[self.at] = byte;
@@ -23,7 +23,7 @@ impl Printer<'_> {
     }
 
     pub fn put(&mut self, bytes: &[u8])
-        ensures { Puts self.old self.new bytes.now }
+        ensures { Prints self.old self.new bytes.now }
     {
         for byte in bytes {
             self.put_byte(*byte);
@@ -32,7 +32,7 @@ impl Printer<'_> {
 
     // A number in decimal: what stands before its last figure, and then that. By hand, since of a `write!` that fails nothing is promised, nor that none fails.
     pub fn put_number(&mut self, n: usize)
-        ensures { Puts self.old self.new (figures n) }
+        ensures { Prints self.old self.new (figures n) }
     {
         if n >= 10 {
             self.put_number(n / 10);
@@ -42,7 +42,7 @@ impl Printer<'_> {
 
     // A number with what stands before and after it.
     pub fn put_within(&mut self, before: &[u8], n: usize, after: &[u8])
-        ensures { Puts self.old self.new (before.now ++ figures n ++ after.now) }
+        ensures { Prints self.old self.new (before.now ++ figures n ++ after.now) }
     {
         self.put(before);
         self.put_number(n);

@@ -1,3 +1,3 @@
--- Read in this order: Report (the report's bytes); Claims (what is proved: they tell again what they were made of). What `print` promises is `Puts` of the crate `printing`.
+-- Read in this order: Report (the report's bytes); Claims (what is proved: they tell again what they were made of). What `print` promises is `Prints` of the crate `printing`.
 pub mod Report
 pub mod Claims

@@ -1,7 +1,7 @@
 // The report of a conclusion: its lines.
 #![tactic(auto)]
 
-ghost use Rattle.printing.specs.Putting.{Puts};
+ghost use Rattle.printing.specs.Putting.{Prints};
 ghost use Rattle.report.specs.Report.{two_numbers, verdict_line, pair_lines, report};
 ghost use Rattle.sheet.specs.Sheet.{kept_pairs};
 
@@ -18,14 +18,14 @@ pub struct Conclusion {
 
 // Two numbers, a space between them, and the line's end.
 fn put_two(out: &mut Printer<'_>, first: usize, second: usize)
-    ensures { Puts out.old out.new (two_numbers first second) }
+    ensures { Prints out.old out.new (two_numbers first second) }
 {
     out.put_within(b"", first, b" ");
     out.put_within(b"", second, b"\n");
 }
 
 fn put_verdict(out: &mut Printer<'_>, told: Told)
-    ensures { Puts out.old out.new (verdict_line told) }
+    ensures { Prints out.old out.new (verdict_line told) }
 {
     out.put_within(b"verdict ", told.number as usize, b" place ");
     put_two(out, told.place, told.also);
@@ -33,7 +33,7 @@ fn put_verdict(out: &mut Printer<'_>, told: Told)
 
 // One line a kept pair.
 fn put_pairs(out: &mut Printer<'_>, sheet: Sheet)
-    ensures { Puts out.old out.new (pair_lines (kept_pairs sheet)) }
+    ensures { Prints out.old out.new (pair_lines (kept_pairs sheet)) }
 {
     for pair in &sheet.pairs[..kept(sheet.total)] {
         put_two(out, pair.first, pair.second);
@@ -42,7 +42,7 @@ fn put_pairs(out: &mut Printer<'_>, sheet: Sheet)
 
 // The whole report.
 pub fn print(out: &mut Printer<'_>, concluded: Conclusion)
-    ensures { Puts out.old out.new (report concluded) }
+    ensures { Prints out.old out.new (report concluded) }
 {
     put_verdict(out, concluded.told);
     out.put_within(b"total ", concluded.sheet.total, b"\n");

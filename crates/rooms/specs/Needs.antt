@@ -5,17 +5,6 @@ use Rattle.tables.specs.Rows.{rows}
 use Rattle.rules.specs.Rules.{Keeps}
 use Rattle.relation.specs.Table.{words}
 
--- row c is there, and its generation
-pub record OneCommand (commands generations : List ℕ) (c : ℕ) : Type 0 where
-  pub there : c < rows commands
-  pub whole : rows commands ≤ length generations
-
--- rows i and j are there, and their generations
-pub record TwoCommands (commands generations : List ℕ) (i j : ℕ) : Type 0 where
-  pub from : i < rows commands
-  pub to : j < rows commands
-  pub whole : rows commands ≤ length generations
-
 -- there are few rows, and rooms so long have room for their relation and generations
 pub record Ample (commands : List ℕ) (relation_length generation_length : ℕ) : Type 0 where
   pub few_rows : rows commands ≤ most_rows

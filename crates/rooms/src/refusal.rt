@@ -37,7 +37,7 @@ pub fn refuse(tables: Tables, wide: usize, high: usize) -> Result<(), Refusal>
     refuse_sizes(tables.commands, wide, high)
 }
 
-// Are tables and rooms admitted, which is to say not refused? Callers that only go on, or not, are spared the refusal.
+// Are tables and rooms admitted, which is to say not refused? A caller that only goes on, or not, asks yes or no.
 pub fn admits(tables: Tables, wide: usize, high: usize) -> bool
     ensures { AnswersAdmits tables.entry.commands.now tables.entry.lengths.now wide high result }
 {

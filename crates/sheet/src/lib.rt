@@ -56,7 +56,7 @@ impl Sheet {
     }
 }
 
-// One pair more, in place.
+// One pair more, in place: document 01's form, first by value and then in place.
 pub fn add_to(sheet: &mut Sheet, pair: Pair)
     ensures { AddsPair sheet.old pair sheet.new }
 {

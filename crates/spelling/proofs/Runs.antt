@@ -1,12 +1,18 @@
 -- Runs of bytes that pass a test: how long they are, where they stop, and what they leave. Assumes nothing.
-use mathlib.Core.Path.{◌≡◌, refl}
-use mathlib.Core.Logic.{⊎_elim}
+use mathlib.Core.Path.{◌≡◌, refl, sym}
+use mathlib.Core.Logic.{⊎_elim, by_cases}
+use native.Mathlib.Decide.{dec_lt}
 use mathlib.Core.Bool.{Bool, true, false, cond}
 use mathlib.Mathlib.Data.Bool.Basic.{dichotomy}
 use mathlib.Core.List.{List, [], ◌∷◌, ◌++◌}
 use Prim.Native.Nat.{ℕ, suc, ◌+◌, ◌≤◌, ◌<◌}
 use native.Mathlib.Omega.{arith}
 use lib.ListN.{length, get_or, take, drop, take-append-drop}
+use Rattle.std.proofs.Common.{not, position}
+use Rattle.std.specs.Option.{unwrap_or}
+use Rattle.std.specs.List.{position_or_len}
+use Rattle.std.proofs.lemmas.List.Recursion.{is_position_or_len}
+use borrow.Author.Tests.{lt-ltb, le-ltb}
 use Rattle.spelling.specs.Bytes.{run}
 
 -- what is empty by its first byte is so whatever follows
@@ -70,3 +76,16 @@ module _ (p : ℕ → Bool) where
   unfolding run
   run_behind [] c z e = run_none 32 c e
   run_behind (b ∷ w) c z e = same_none (p b) (run p w) (run p (w ++ (32 ∷ c))) z
+
+  -- a run stops at the first byte that does not pass, or at the end
+  module _ (q : ℕ → Bool) (no : (b : ℕ) → q b ≡ not (p b)) where
+    run_first : (s : List ℕ) → run p s ≡ position_or_len q s
+    unfolding run
+    run_first =
+        is_position_or_len (run p) q refl
+        (λ b s. ⊎_elim (λ (e : p b ≡ false). rw (run_none b s e, no b, e) refl) (λ (e : p b ≡ true). rw (run_more b s e, no b, e) (omega arith)) (dichotomy (p b)))
+
+    pub run_position : (s : List ℕ) → unwrap_or (position q s) (length s) ≡ run p s
+    run_position s =
+        by_cases (dec_lt (run p s) (length s)) (λ (l : run p s < length s). rw (sym (run_first s), lt-ltb _ _ l) refl)
+        (λ (n : ¬ (run p s < length s)). rw (sym (run_first s), le-ltb (run p s) (length s) (omega arith)) (omega (arith, run_le s)))

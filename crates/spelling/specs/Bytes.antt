@@ -28,12 +28,12 @@ code Digit = 2
 code Other = 3
 
 -- is a byte of the class of a number, of which there may be none?
-abbrev pub numbered : ℕ → ℕ → Bool
-numbered n b = eqb (code (class_of b)) n
+abbrev pub of_class : ℕ → ℕ → Bool
+of_class n b = eqb (code (class_of b)) n
 
 -- is a byte of a class?
 abbrev pub is : Class → ℕ → Bool
-is k b = numbered (code k) b
+is k b = of_class (code k) b
 
 -- how many bytes that pass a test the bytes begin with (R43)
 unfoldable pub run : (ℕ → Bool) → List ℕ → ℕ

@@ -1,7 +1,7 @@
 -- What each public function promises.
 use Rattle.std.specs.Prelude.{◌≡◌, Bool, Option, List, ℕ}
 use Rattle.spelling.specs.declared.bytes.Class.{Class}
-use Rattle.spelling.specs.Bytes.{class_of, numbered, run}
+use Rattle.spelling.specs.Bytes.{class_of, of_class, run}
 use Rattle.spelling.specs.Words.{same_bytes}
 use Rattle.spelling.specs.Numbers.{numeral_of}
 
@@ -11,7 +11,7 @@ AnswersClassOf byte r = r ≡ class_of byte
 
 -- `run_of`, of the class of a number
 abbrev pub AnswersRunOf : (bytes : List ℕ) (class r : ℕ) → Type 0
-AnswersRunOf bytes class r = r ≡ run (numbered class) bytes
+AnswersRunOf bytes class r = r ≡ run (of_class class) bytes
 
 -- `same`
 abbrev pub AnswersSame : (bytes word : List ℕ) (r : Bool) → Type 0

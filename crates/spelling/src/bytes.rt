@@ -1,4 +1,6 @@
 // Classes of bytes, and runs of bytes of one class.
+ghost use Rattle.std.specs.Prelude.{◌≡◌, not, position};
+ghost use Rattle.spelling.specs.Bytes.{of_class};
 ghost use Rattle.spelling.specs.Promise.{AnswersClassOf, AnswersRunOf};
 
 #[derive(Clone, Copy, PartialEq, Eq)]
@@ -23,14 +25,20 @@ pub fn class_of(byte: u8) -> Class
     }
 }
 
-// How many bytes of a class the bytes begin with. The class stays a number, for any may be asked; a closure in its place would need a `requires`, and a public function has none.
+// The first byte that is not of a class.
+#[tactic(auto, using(crate::proofs::Classes::tag_code))]
+fn first_other(bytes: &[u8], class: u32) -> Option<usize>
+    ensures { result ≡ position (λ b. not (of_class class b)) bytes.now }
+{
+    bytes
+        .iter()
+        .position(|byte| class_of(*byte) as u32 != class)
+}
+
+// How many bytes of a class the bytes begin with. The class stays a number, for any may be asked;
+// a closure in its place would need a `requires`, and a public function has none.
 pub fn run_of(bytes: &[u8], class: u32) -> usize
     ensures { AnswersRunOf bytes.now class result }
 {
-    for (i, byte) in bytes.iter().enumerate() {
-        if class_of(*byte) as u32 != class {
-            return i;
-        }
-    }
-    bytes.len()
+    first_other(bytes, class).unwrap_or(bytes.len())
 }

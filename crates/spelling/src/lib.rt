@@ -1,5 +1,5 @@
-// What the readers of written notations share: classes and runs of bytes, words, numbers; in specs/ and proofs/ also the tokens of a text, what a text spells, and the
-// tables that a reader finds by them. Knows no notation.
+// What the readers of written notations share: classes and runs of bytes, words, numbers; in specs/ and proofs/ also the tokens of a text,
+// what a text spells, and the tables that a reader finds by them. Knows no notation.
 #![tactic(auto)]
 
 mod bytes; // classes of bytes, and runs of one class

@@ -13,7 +13,6 @@ use Rattle.verdicts.specs.Verdicts.{numbered}
 use Rattle.verdicts.specs.declared.Verdict.TheVariants as verdict
 use Rattle.verdicts.proofs.Verdicts.{zero_clean}
 use Rattle.steps.specs.declared.change.Change.{Change}
-use Rattle.steps.specs.declared.row.Row.{Row}
 use Rattle.steps.specs.declared.state.Replay.{Replay}
 use Rattle.steps.specs.declared.step.How.{How}
 use Rattle.steps.specs.declared.step.How.TheVariants.{Mismatch, Ran}
@@ -25,8 +24,8 @@ use Rattle.steps.specs.Claims.{GoOnJoined, StaysEnded}
 use Rattle.steps.specs.Step.{stepped}
 use Rattle.steps.specs.Going.{standing, went_on, one_step_on, go_on}
 use Rattle.steps.specs.Writing.{does_go_on}
-use Rattle.steps.specs.Needs.{applied}
-use Rattle.steps.proofs.Stepping.{Found, found_did, found_kept, found_after}
+use Rattle.steps.specs.Needs.{Found, applied}
+use Rattle.steps.proofs.Stepping.{found_did, found_kept, found_after}
 
 module _ (commands lengths : List ℕ) where
   pub go_on_joined : GoOnJoined commands lengths
@@ -81,7 +80,7 @@ module _ (commands lengths σ : List ℕ) where
           ∙ ap (go_on commands lengths (drop (suc i) σ)) (one_on commands lengths (standing s g n verdict.Clean) (get_or σ i 0) refl e f)
           ∙ ap (λ (k : ℕ). go_on commands lengths (drop k σ) (went_on d a (standing s g n verdict.Clean))) (sym (add-one i))
 
-      module _ {row : Row} {made : Change} (F : Found commands lengths s (get_or σ i 0) row made) where
+      module _ {made : Change} (F : Found commands lengths s (get_or σ i 0) made) where
         did_so : {d : Did} → made.did ≡ d → (stepped commands lengths s (get_or σ i 0)).did ≡ d
         did_so e = found_did F ∙ e
 
@@ -101,7 +100,7 @@ module _ (commands lengths σ : List ℕ) where
           pub ran_goes : {c k : ℕ} → how ≡ Ran c k → does_go_on made.did ≡ true
           ran_goes h = ap does_go_on (took ∙ ap Took h)
 
-          pub at_more : {c k m : ℕ} {s' : Replay} {g' : List ℕ} → how ≡ Ran c k → s' ≡ applied s (get_or σ i 0) row.barrier made → g' ≡ set g c k → m ≡ counted n
+          pub at_more : {c k m : ℕ} {s' : Replay} {g' : List ℕ} → how ≡ Ran c k → s' ≡ applied s (get_or σ i 0) made → g' ≡ set g c k → m ≡ counted n
               → At commands lengths σ whole s' g' m (i + 1)
           at_more {c} {k} h es eg em =
               record {

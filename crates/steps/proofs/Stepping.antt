@@ -1,4 +1,4 @@
--- One step, from the row and the change that were found, and what each store of it needs. Assumes nothing.
+-- One step, from the change that was found, and what each store of it needs. Assumes nothing.
 use mathlib.Core.Path.{◌≡◌, refl, sym, ap, ◌∙◌}
 use mathlib.Core.Bool.{Bool, true, false}
 use mathlib.Core.List.{List}
@@ -22,19 +22,14 @@ use Rattle.steps.specs.declared.state.Replay.{Replay}
 use Rattle.steps.specs.declared.step.Did.{Did}
 use Rattle.barriers.specs.Counting.{counted}
 use Rattle.barriers.specs.Barrier.{registration}
-use Rattle.steps.specs.State.{ran_so_far, waiting, barrier_at}
+use Rattle.steps.specs.State.{ran_so_far, waiting}
 use Rattle.steps.specs.Claims.{CountOne}
 use Rattle.steps.specs.Step.{registering, stepped}
 use Rattle.steps.specs.Writing.{does_go_on}
-use Rattle.steps.specs.Needs.{row_of_thread, changed, applied, FirstRows}
-use Rattle.steps.proofs.Changing.{May, step_row, step_change, goes_allowed, step_did, step_kept, step_after, row_is, change_is, row_command, goes_so}
+use Rattle.steps.specs.Needs.{row_of_thread, KnownRow, changed, step_change, Found, applied, FirstRows}
+use Rattle.steps.proofs.Changing.{May, goes_allowed, step_did, step_kept, step_after, change_is, known_change}
 
--- The row and the change of thread t's step are found.
-pub record Found (commands lengths : List ℕ) (s : Replay) (t : ℕ) (row : Row) (made : Change) : Type 0 where
-  pub row_is : row ≡ step_row commands lengths s t
-  pub change_is : made ≡ step_change commands lengths s t
-
-module _ {commands lengths : List ℕ} {s : Replay} {t : ℕ} {row : Row} {made : Change} (F : Found commands lengths s t row made) where
+module _ {commands lengths : List ℕ} {s : Replay} {t : ℕ} {made : Change} (F : Found commands lengths s t made) where
   goes_is : {b : Bool} → does_go_on made.did ≡ b → does_go_on (step_change commands lengths s t).did ≡ b
   goes_is e = ap (λ (d : Change). does_go_on d.did) (sym F.change_is) ∙ e
 
@@ -44,10 +39,8 @@ module _ {commands lengths : List ℕ} {s : Replay} {t : ℕ} {row : Row} {made 
   pub found_kept : does_go_on made.did ≡ false → (stepped commands lengths s t).after ≡ s
   found_kept e = step_kept commands lengths s t (goes_is e)
 
-  pub found_after : does_go_on made.did ≡ true → (stepped commands lengths s t).after ≡ applied s t row.barrier made
-  found_after e =
-      step_after commands lengths s t (goes_is e)
-      ∙ ap (λ (r : Row). applied s t r.barrier (step_change commands lengths s t)) (sym F.row_is) ∙ ap (applied s t row.barrier) (sym F.change_is)
+  pub found_after : does_go_on made.did ≡ true → (stepped commands lengths s t).after ≡ applied s t made
+  found_after e = step_after commands lengths s t (goes_is e) ∙ ap (applied s t) (sym F.change_is)
 
   pub found_did : (stepped commands lengths s t).did ≡ made.did
   found_did = step_did commands lengths s t ∙ ap (λ (d : Change). d.did) (sym F.change_is)
@@ -59,7 +52,7 @@ module _ {commands lengths : List ℕ} {s : Replay} {t : ℕ} {row : Row} {made 
   pub answers_kept : does_go_on made.did ≡ false → record { after = s; did = made.did } ≡ stepped commands lengths s t
   answers_kept e = whole (sym (found_kept e)) (sym found_did)
 
-  pub answers_on : {s' : Replay} → does_go_on made.did ≡ true → s' ≡ applied s t row.barrier made → record { after = s'; did = made.did } ≡ stepped commands lengths s t
+  pub answers_on : {s' : Replay} → does_go_on made.did ≡ true → s' ≡ applied s t made → record { after = s'; did = made.did } ≡ stepped commands lengths s t
   answers_on e f = whole (f ∙ sym (found_after e)) (sym found_did)
 
   -- what the stores need
@@ -69,13 +62,10 @@ module _ {commands lengths : List ℕ} {s : Replay} {t : ℕ} {row : Row} {made 
   pub found_next : does_go_on made.did ≡ true → ran_so_far s t < get_or lengths t 0
   found_next e = (found_may e).left.left
 
-  pub found_command : does_go_on made.did ≡ true → row.command ≡ first_row lengths t + ran_so_far s t
-  found_command e = ap (λ (r : Row). r.command) F.row_is ∙ row_command commands lengths s t (goes_so commands lengths s t (goes_is e))
-
 pub found : (commands lengths : List ℕ) (s : Replay) (t first n wait : ℕ) (row : Row) (made : Change) → (t < most_threads → first ≡ first_row lengths t) → n ≡ ran_so_far s t
-    → wait ≡ waiting s t → row ≡ row_of_thread commands lengths t first n wait → made ≡ changed row (barrier_at s row.barrier) → Found commands lengths s t row made
+    → wait ≡ waiting s t → (row ≡ row_of_thread commands lengths t first n wait) × KnownRow row → made ≡ changed row s.barriers → Found commands lengths s t made
 found commands lengths s t first n wait row made begins ne we re me =
-    record { row_is = row_is commands lengths s t begins ne we re me; change_is = change_is commands lengths s t begins ne we re me }
+    record { change_is = change_is commands lengths s t begins ne we re.0 me; known = rw me (known_change row s.barriers re.1) }
 
 -- ---- where each thread's rows begin
 

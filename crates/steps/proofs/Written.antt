@@ -11,6 +11,7 @@ use lib.Seq.{set_at, drop-cons}
 use borrow.Author.Tests.{le-ltb}
 use Rattle.relation.proofs.Truth.{both}
 use Rattle.tables.specs.Limits.{most_threads}
+use Rattle.tables.specs.Rows.{first_row}
 use Rattle.sets.specs.declared.Set.{Set}
 use Rattle.sets.specs.Set.{has_but}
 use Rattle.turns.specs.declared.ready.Ready.{Ready}
@@ -19,13 +20,12 @@ use Rattle.turns.specs.Ready.{looked, held_after}
 use Rattle.turns.proofs.Turns.{left_so}
 use Rattle.turns.proofs.Kept.{Kept, kept_more, but_left, but_first, or_bound, or_there, or_bound_none}
 use Rattle.steps.specs.declared.change.Change.{Change}
-use Rattle.steps.specs.declared.row.Row.{Row}
 use Rattle.steps.specs.declared.state.Replay.{Replay}
 use Rattle.steps.specs.State.{ran_so_far}
 use Rattle.steps.specs.Step.{allowed, stepped}
 use Rattle.steps.specs.Writing.{does_go_on, stepping, picked, picked_first, writes, FilledBy}
-use Rattle.steps.specs.Needs.{applied}
-use Rattle.steps.proofs.Stepping.{Found, found_did, found_after, found_command}
+use Rattle.steps.specs.Needs.{Found, applied}
+use Rattle.steps.proofs.Stepping.{found_did, found_after}
 use Rattle.steps.proofs.Filled.{filled_by}
 
 module _ (early : List Bool) (commands lengths before : List ℕ) (from : Replay) where
@@ -90,7 +90,7 @@ module _ (early : List Bool) (commands lengths before : List ℕ) (from : Replay
           ap (λ (r : List ℕ). set r i t) (W.room_is ∙ ap (λ (r : List ℕ). W.front ++ r) (drop-cons before i 0 l))
           ∙ set_at W.front _ (drop (suc i) before) t i W.long ∙ rw add-one (sym (append_assoc W.front (t ∷ []) (drop (suc i) before)))
 
-      module _ (thread : t < most_threads) {row : Row} {made : Change} (F : Found commands lengths s t row made) where
+      module _ (thread : t < most_threads) {made : Change} (F : Found commands lengths s t made) where
         turn_is : t ≡ choose s
         unfolding picked_first
         turn_is = is ∙ or_bound firsts lefts first_both in_both (omega (arith, is))
@@ -111,20 +111,20 @@ module _ (early : List Bool) (commands lengths before : List ℕ) (from : Replay
 
         -- or the step is written, and the schedule goes on
         pub writing_more : does_go_on made.did ≡ true → {x : ℕ} {s' : Replay} {r' : Ready} {b' : Set}
-            → x ≡ row.command + 1 → s' ≡ applied s t row.barrier made
+            → x ≡ first_row lengths t + ran_so_far s t + 1 → s' ≡ applied s t made
             → r' ≡ looked lengths early r t (ran_so_far s t + 1) x → b' ≡ held_after s'.waits (length lengths) t made.wait made.frees blocked
             → Writing (set room i t) s' r' b' (i + 1)
         unfolding stepping
         writing_more e {x} ex es er eb =
             let n = ran_so_far s t in
-            let after : (stepped commands lengths s t).after ≡ applied s t row.barrier made = found_after F e in
+            let after : (stepped commands lengths s t).after ≡ applied s t made = found_after F e in
             rw (er, eb, es)
             (record {
               next_long = length-set s.next t (n + 1) ∙ W.next_long;
               waits_long = length-map (set s.waits t made.wait) _ ∙ length-set s.waits t made.wait ∙ W.waits_long;
               kept =
                   kept_more lengths early W.kept t thread made.wait made.frees (omega (arith, W.waits_long)) (n + 1) x (omega (arith, W.next_long)) refl
-                  (omega (arith, found_command F e));
+                  (omega (arith, ex));
               front = W.front ++ t ∷ [];
               long = omega (arith, length-append W.front (t ∷ []), W.long);
               within = omega arith;

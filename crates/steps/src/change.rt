@@ -1,29 +1,37 @@
 // What a step changes.
 ghost use Rattle.std.specs.Prelude.{◌≡◌, ◌<◌};
 ghost use Rattle.tables.specs.Limits.{barriers};
-ghost use Rattle.steps.specs.Needs.{still, wait_of, changed};
+ghost use Rattle.steps.specs.Needs.{still, wait_of, entering, changed, KnownRow};
 
-use crate::row::Row;
+use crate::row::{Entrant, Row};
 use crate::step::{Did, How};
 use barriers::{Barrier, Met, more};
+use tables::Table;
 
-// What the step did; what its thread waits for then; what those waited for who are released, or 0; and the barrier. Both are numbers as the state's list holds them: an Option would only be made one again.
+// A barrier that was entered, and what it is then.
+#[derive(Clone, Copy)]
+pub(crate) struct Entered {
+    pub(crate) barrier: usize,
+    pub(crate) after: Barrier,
+}
+
+// What the step did; what its thread waits for then; what those waited for who are released; and the barrier that it entered. Both waits are numbers, 0 or the barrier plus 1, as the state's list holds them: an Option would only be made a number again.
 #[derive(Clone, Copy)]
 pub(crate) struct Change {
     pub(crate) did: Did,
     pub(crate) wait: u32,
     pub(crate) frees: u32,
-    pub(crate) after: Barrier,
+    pub(crate) entered: Option<Entered>,
 }
 
-fn still(did: Did, after: Barrier) -> Change
-    ensures { result ≡ still did after }
+fn still(did: Did) -> Change
+    ensures { result ≡ still did }
 {
     Change {
         did,
         wait: 0,
         frees: 0,
-        after,
+        entered: None,
     }
 }
 
@@ -35,35 +43,43 @@ fn wait_if(syncs: bool, b: usize) -> u32
     if syncs { b as u32 + 1 } else { 0 }
 }
 
-// A row meets its barrier.
-pub(crate) fn run_row(row: Row, barrier: Barrier) -> Change
-    requires { row.barrier < barriers }
-    ensures { result ≡ changed row barrier }
+// A command meets its barrier.
+fn enter(entrant: Entrant, barrier: Barrier) -> Change
+    requires { entrant.barrier < barriers }
+    ensures { result ≡ entering entrant barrier }
 {
-    let c = row.command;
-    if !row.allowed {
-        return still(Did::NotAllowed, barrier);
-    }
-    if !row.enters {
-        return still(Did::Took(How::Ran(c, 0)), barrier);
-    }
+    let c = entrant.command;
+    let b = entrant.barrier;
     let generation = more(barrier.done);
-    let registration = barrier.register(row.count);
+    let registration = barrier.register(entrant.count);
     let met = registration.met;
     let after = registration.after;
     match met {
-        Met::Clash => still(Did::Took(How::Mismatch(c)), after),
+        Met::Clash => still(Did::Took(How::Mismatch(c))),
         Met::Stays => Change {
             did: Did::Took(How::Ran(c, generation)),
-            wait: wait_if(row.syncs, row.barrier),
+            wait: wait_if(entrant.syncs, b),
             frees: 0,
-            after,
+            entered: Some(Entered { barrier: b, after }),
         },
         Met::Completes => Change {
             did: Did::Took(How::Ran(c, generation)),
-            wait: wait_if(row.syncs, row.barrier),
-            frees: row.barrier as u32 + 1,
-            after,
+            wait: wait_if(entrant.syncs, b),
+            frees: b as u32 + 1,
+            entered: Some(Entered { barrier: b, after }),
         },
+    }
+}
+
+// What a row changes, where the barriers are these.
+#[tactic(auto, unfolding(tables::specs::Limits::barriers))]
+pub(crate) fn run_row(row: Row, barriers: &[Barrier; Table::BARRIERS]) -> Change
+    requires { KnownRow row }
+    ensures { result ≡ changed row barriers.now }
+{
+    match row {
+        Row::NotAllowed => still(Did::NotAllowed),
+        Row::Passes(c) => still(Did::Took(How::Ran(c, 0))),
+        Row::Enters(entrant) => enter(entrant, barriers[entrant.barrier]),
     }
 }

@@ -4,9 +4,7 @@ ghost use Rattle.verdicts.specs.declared.Verdict.TheVariants as verdict;
 ghost use Rattle.steps.specs.Going.{standing};
 ghost use Rattle.steps.specs.Promise.{AnswersReplayedStart, AnswersGoOn};
 
-use crate::change::run_row;
 use crate::firsts::first_rows;
-use crate::row::thread_row;
 use crate::state::Replay;
 use crate::step::{Did, How};
 use barriers::more;
@@ -80,12 +78,7 @@ fn play(
     let mut steps = ran;
     for entry in entries {
         let t = *entry as usize;
-        let n = at(&state.next, t, 0);
-        let wait = at(&state.waits, t, 0);
-        let row = thread_row(commands, lengths, t, at(&firsts, t, 0), n, wait);
-        let b = row.barrier;
-        let barrier = state.barriers[b];
-        let made = run_row(row, barrier);
+        let made = state.change(commands, lengths, t, at(&firsts, t, 0));
         let did = made.did;
         let Did::Took(how) = did else {
             return stop(
@@ -103,7 +96,7 @@ fn play(
                 put(&mut generations, c, generation);
             }
         }
-        state.store(t, b, made);
+        state.store(t, made);
         steps = more(steps);
     }
     stop(state, generations, steps, Verdict::Clean)

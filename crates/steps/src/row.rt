@@ -1,35 +1,26 @@
 // The next row of a thread, as a step needs it.
 ghost use Rattle.std.specs.Prelude.{◌≡◌, true, false, ◌*◌, ◌<◌};
-ghost use Rattle.tables.specs.Limits.{barriers};
-ghost use Rattle.steps.specs.Needs.{plain_row, row_at, row_of_thread, far};
+ghost use Rattle.steps.specs.Needs.{row_at, row_of_thread, KnownRow, far};
 
 use relation::at;
 use tables::Table;
 use turns::allows;
 
-// May the thread step, and with which command? Does that enter a barrier, which, with what count, and does it block?
+// A command that enters a barrier: which, with what count, and whether it blocks.
 #[derive(Clone, Copy)]
-pub(crate) struct Row {
-    pub(crate) allowed: bool,
+pub(crate) struct Entrant {
     pub(crate) command: usize,
-    pub(crate) enters: bool,
-    pub(crate) syncs: bool,
     pub(crate) barrier: usize,
     pub(crate) count: u32,
+    pub(crate) syncs: bool,
 }
 
-// A command that enters no barrier.
-fn plain(allowed: bool, c: usize) -> Row
-    ensures { result ≡ plain_row allowed c }
-{
-    Row {
-        allowed,
-        command: c,
-        enters: false,
-        syncs: false,
-        barrier: 0,
-        count: 0,
-    }
+// The thread may not step, or its command enters no barrier, or enters one.
+#[derive(Clone, Copy)]
+pub(crate) enum Row {
+    NotAllowed,
+    Passes(usize),
+    Enters(Entrant),
 }
 
 // Row c.
@@ -40,19 +31,17 @@ fn row_at(commands: &[u32], c: usize) -> Row
     let kind = at(commands, c * 3, 0);
     let barrier = at(commands, c * 3 + 1, 0) as usize;
     if kind < Table::ARRIVE {
-        return plain(true, c);
+        return Row::Passes(c);
     }
     if Table::BARRIERS <= barrier {
-        return plain(true, c);
+        return Row::Passes(c);
     }
-    Row {
-        allowed: true,
+    Row::Enters(Entrant {
         command: c,
-        enters: true,
-        syncs: kind == Table::SYNC,
         barrier,
         count: at(commands, c * 3 + 2, 0),
-    }
+        syncs: kind == Table::SYNC,
+    })
 }
 
 // The row of thread t, whose rows begin at `first`, which has run n of them and waits for `wait`.
@@ -65,10 +54,10 @@ pub(crate) fn thread_row(
     wait: u32,
 ) -> Row
     requires { first < far }
-    ensures { (result ≡ row_of_thread commands.now lengths.now t first n wait) × (result.barrier < barriers) }
+    ensures { (result ≡ row_of_thread commands.now lengths.now t first n wait) × (KnownRow result) }
 {
     if !allows(lengths, t, n, wait) {
-        return plain(false, 0);
+        return Row::NotAllowed;
     }
     row_at(commands, first + n as usize)
 }

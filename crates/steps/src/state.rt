@@ -3,7 +3,7 @@ ghost use Rattle.std.specs.Prelude.{◌≡◌, ◌<◌};
 ghost use Rattle.tables.specs.Limits.{barriers, most_threads};
 ghost use Rattle.steps.specs.State.{ran_so_far};
 ghost use Rattle.steps.specs.Promise.{AnswersReplayStart};
-ghost use Rattle.steps.specs.Needs.{applied};
+ghost use Rattle.steps.specs.Needs.{applied, KnownChange};
 
 use crate::change::Change;
 use barriers::{Barrier, Phase};
@@ -34,15 +34,17 @@ impl Replay {
         }
     }
 
-    // What a step of thread t changes is stored, at barrier b: the thread has run one command more. In place, since copying the state is slow.
+    // What a step of thread t changes is stored: the thread has run one command more. In place, since copying the state is slow.
     #[tactic(auto, unfolding(tables::specs::Limits::barriers, tables::specs::Limits::most_threads))]
-    pub(crate) fn store(&mut self, t: usize, b: usize, made: Change)
+    pub(crate) fn store(&mut self, t: usize, made: Change)
         requires thread { t < most_threads }
-        requires barrier { b < barriers }
+        requires barrier { KnownChange made }
         requires counts { ran_so_far self.old t < 4294967295 }
-        ensures { self.new ≡ applied self.old t b made }
+        ensures { self.new ≡ applied self.old t made }
     {
-        self.barriers[b] = made.after;
+        if let Some(entered) = made.entered {
+            self.barriers[entered.barrier] = entered.after;
+        }
         self.next[t] += 1;
         settle(&mut self.waits, t, made.wait, made.frees);
     }

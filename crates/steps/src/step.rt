@@ -1,9 +1,12 @@
 // One step: it runs the next command of one thread.
-ghost use Rattle.std.specs.Prelude.{◌≡◌};
+ghost use Rattle.std.specs.Prelude.{◌≡◌, ◌<◌};
+ghost use Rattle.tables.specs.Limits.{most_threads};
+ghost use Rattle.tables.specs.Rows.{first_row};
+ghost use Rattle.steps.specs.Needs.{far, Found};
 ghost use Rattle.steps.specs.Writing.{does_go_on};
 ghost use Rattle.steps.specs.Promise.{AnswersStep};
 
-use crate::change::run_row;
+use crate::change::{Change, run_row};
 use crate::row::thread_row;
 use crate::state::Replay;
 use relation::at;
@@ -40,22 +43,29 @@ pub(crate) fn goes_on(did: Did) -> bool
 }
 
 impl Replay {
+    // What a step of thread t changes, whose rows begin at `first`.
+    pub(crate) fn change(&self, commands: &[u32], lengths: &[u32], t: usize, first: usize) -> Change
+        requires small { first < far }
+        requires begins { t < most_threads → first ≡ first_row lengths.now t }
+        ensures { Found commands.now lengths.now self.now t result }
+    {
+        let n = at(&self.next, t, 0);
+        let wait = at(&self.waits, t, 0);
+        let row = thread_row(commands, lengths, t, first, n, wait);
+        run_row(row, &self.barriers)
+    }
+
     // Thread t steps. A step that is not allowed, or that mismatches, keeps the state it met.
     #[tactic(auto, unfolding(tables::specs::Limits::barriers, tables::specs::Limits::most_threads))]
     pub fn step(mut self, commands: &[u32], lengths: &[u32], t: usize) -> Stepped
         ensures { AnswersStep self commands.now lengths.now t result }
     {
-        let n = at(&self.next, t, 0);
-        let wait = at(&self.waits, t, 0);
-        let row = thread_row(commands, lengths, t, first_row(lengths, t), n, wait);
-        let b = row.barrier;
-        let barrier = self.barriers[b];
-        let made = run_row(row, barrier);
+        let made = self.change(commands, lengths, t, first_row(lengths, t));
         let did = made.did;
         if !goes_on(did) {
             return Stepped { after: self, did };
         }
-        self.store(t, b, made);
+        self.store(t, made);
         Stepped { after: self, did }
     }
 }

@@ -4,9 +4,7 @@ ghost use Rattle.turns.proofs.Kept.{LookedBelow};
 ghost use Rattle.steps.specs.Needs.{FirstRows};
 ghost use Rattle.steps.specs.Promise.{WritesOn};
 
-use crate::change::run_row;
 use crate::firsts::first_rows;
-use crate::row::thread_row;
 use crate::state::Replay;
 use crate::step::goes_on;
 use relation::at;
@@ -53,16 +51,13 @@ pub fn write_on(
         };
         room[steps] = t as u32;
         let n = state.next[t];
-        let wait = state.waits[t];
-        let row = thread_row(commands, lengths, t, firsts[t], n, wait);
-        let b = row.barrier;
-        let barrier = state.barriers[b];
-        let made = run_row(row, barrier);
+        let first = firsts[t];
+        let made = state.change(commands, lengths, t, first);
         if !goes_on(made.did) {
             return steps + 1;
         }
-        state.store(t, b, made);
-        ready = ready.look(lengths, early, t, n + 1, row.command + 1);
+        state.store(t, made);
+        ready = ready.look(lengths, early, t, n + 1, first + n as usize + 1);
         blocked = blocked_after(blocked, lengths, &state.waits, t, made.wait, made.frees);
     }
     room.len()

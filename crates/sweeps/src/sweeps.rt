@@ -1,4 +1,5 @@
-// Rows joined along listed pairs, which callers of `put_reach` lend as two numbers each, sweep after sweep, until nothing changes. In which order can only cost time, so no promise speaks of it.
+// Rows joined along listed pairs, which callers of `put_reach` lend as two numbers each, sweep after sweep, until nothing changes.
+// In which order can only cost time, so no promise speaks of it.
 ghost use Rattle.std.specs.Prelude.{◌≤◌, length};
 ghost use Rattle.relation.specs.Table.{words};
 ghost use Rattle.sweeps.specs.Pairs.{pair_count, PairBetween, PairIn};
@@ -36,8 +37,8 @@ fn sweep_parts(room: &mut [u32], m: u32, pairs: &[u32], parts: &[u32]) -> bool
     changed | sweep(room, m, pairs, first, n)
 }
 
-// Sweeps until nothing changes: by turns over the pairs from the last on, and part after part. The first is quick where chains lead to later parts, the second where they lead to
-// earlier ones.
+// Sweeps until nothing changes: by turns over the pairs from the last on, and part after part.
+// The first is quick where chains lead to later parts, the second where they lead to earlier ones.
 fn settle(room: &mut [u32], m: u32, pairs: &[u32], parts: &[u32])
     requires { words m ≤ length room.old }
     ensures { AllTaken (PairIn pairs.now m) m room.old room.new }
@@ -53,7 +54,8 @@ fn settle(room: &mut [u32], m: u32, pairs: &[u32], parts: &[u32])
     }
 }
 
-// The least relation on the numbers below m that has the listed pairs, in which each number reaches itself, and chains count. A room that is short is refused and left as it was.
+// The least relation on the numbers below m that has the listed pairs, in which each number reaches itself, and chains count.
+// A room that is short is refused and left as it was. Whether there is room is a bool: `Writes` (relation/specs/Table) tells it as a Bool (R82).
 pub fn put_reach(room: &mut [u32], m: u32, pairs: &[u32], parts: &[u32]) -> bool
     ensures { PutsReach room.old m pairs.now room.new result }
 {

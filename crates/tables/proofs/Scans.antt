@@ -7,7 +7,7 @@ use native.Mathlib.Omega.{arith}
 use borrow.Author.Count.{below_none, below_more}
 use borrow.Author.Tests.{lt-ltb, le-ltb, ltb-true, ltb-false}
 use Rattle.std.proofs.Common.{Some, None, ltb, ⊎_elim}
-use Rattle.tables.specs.Lowest.{lowest, below, found}
+use Rattle.tables.specs.Lowest.{lowest, if_below, found}
 use Rattle.tables.proofs.Lowest.{lowest_first, lowest_is}
 
 -- the search has come to i, and no number below i passes
@@ -35,17 +35,17 @@ lowest_passes p n e l = rw e ((lowest_first p n).passes (omega arith))
 -- ---- a search that answers nothing where no number passes
 
 module _ {n i : ℕ} where
-  pub below_some : i < n → Some i ≡ below n i
-  unfolding below
-  below_some l = rw (lt-ltb i n l)
+  pub if_below_some : i < n → Some i ≡ if_below n i
+  unfolding if_below
+  if_below_some l = rw (lt-ltb i n l)
 
-  pub below_none_of : n ≤ i → None ≡ below n i
-  unfolding below
-  below_none_of l = rw (le-ltb i n l)
+  pub if_below_none : n ≤ i → None ≡ if_below n i
+  unfolding if_below
+  if_below_none l = rw (le-ltb i n l)
 
-  pub below_hit : {t : ℕ} → Some t ≡ below n i → (t < n) × (t ≡ i)
-  unfolding below
-  below_hit {t} e =
+  pub if_below_hit : {t : ℕ} → Some t ≡ if_below n i → (t < n) × (t ≡ i)
+  unfolding if_below
+  if_below_hit {t} e =
       ⊎_elim
       (λ (f : ltb i n ≡ false). absurd (let q : Some t ≡ None = rw f at e in cc))
       (λ (h : ltb i n ≡ true).
@@ -54,16 +54,16 @@ module _ {n i : ℕ} where
       (omega (arith, ltb-true _ _ h), s))
       (dichotomy (ltb i n))
 
-  pub below_miss : None ≡ below n i → n ≤ i
-  unfolding below
-  below_miss e =
+  pub if_below_miss : None ≡ if_below n i → n ≤ i
+  unfolding if_below
+  if_below_miss e =
       ⊎_elim (λ (f : ltb i n ≡ false). ltb-false _ _ f)
       (λ (h : ltb i n ≡ true). absurd (let q : None ≡ Some i = rw h at e in cc))
       (dichotomy (ltb i n))
 
 module _ (p : ℕ → Bool) {n i : ℕ} (s : Scanned p n i) where
   pub found_some : i < n → p i ≡ true → Some i ≡ found p n
-  found_some l e = below_some l ∙ ap (below n) (scan_found p s e)
+  found_some l e = if_below_some l ∙ ap (if_below n) (scan_found p s e)
 
   pub found_none : n ≤ i → None ≡ found p n
-  found_none l = below_none_of l ∙ ap (below n) (scan_end p s l)
+  found_none l = if_below_none l ∙ ap (if_below n) (scan_end p s l)

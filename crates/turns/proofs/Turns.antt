@@ -12,15 +12,15 @@ use borrow.Author.Tests.{lt-ltb, le-ltb, ltb-true, eq-eqb, ne_eqb}
 use Rattle.std.specs.Option.{option_or}
 use Rattle.relation.proofs.Truth.{both, split}
 use Rattle.tables.specs.Limits.{most_threads}
-use Rattle.tables.specs.Lowest.{lowest, below, found}
+use Rattle.tables.specs.Lowest.{lowest, if_below, found}
 use Rattle.tables.proofs.Lowest.{lowest_is}
 use Rattle.turns.specs.Turns.{held, let_go_of, released, settled, has_any_left, may_go, may_step, lowest_or}
 
 -- ---- the lowest that passes one test, or else another
 
 module _ (p q : ℕ → Bool) (n : ℕ) where
-  pub found_or : option_or (found p n) (found q n) ≡ below n (lowest_or p q n)
-  unfolding below
+  pub found_or : option_or (found p n) (found q n) ≡ if_below n (lowest_or p q n)
+  unfolding if_below
   found_or = ⊎_elim (λ (e : ltb (lowest p n) n ≡ true). rw e (rw e)) (λ (e : ltb (lowest p n) n ≡ false). rw e) (split (ltb (lowest p n) n))
 
   pub or_none : ((k : ℕ) → k < n → p k ≡ false) → lowest q n ≡ lowest_or p q n

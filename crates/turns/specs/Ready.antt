@@ -1,7 +1,7 @@
 -- The sets that a schedule writer keeps, so that no thread need be looked at twice (R24, R62).
 use Rattle.std.specs.Prelude.{Bool, cond, not, ◌&&◌, List, Option, ℕ, zero, suc, eqb}
 use Rattle.tables.specs.Limits.{most_threads}
-use Rattle.tables.specs.Lowest.{below}
+use Rattle.tables.specs.Lowest.{if_below}
 use Rattle.sets.specs.declared.Set.{Set}
 use Rattle.sets.specs.Set.{none, put, has_but}
 use Rattle.turns.specs.declared.ready.Ready.{Ready}
@@ -27,4 +27,4 @@ held_after waits threads t wait frees blocked = cond (eqb frees 0) (put blocked 
 
 -- the lowest thread that is not blocked and goes first, or else the lowest that is not blocked and has a command left (R24, R62)
 abbrev pub chosen : Ready → Set → Option ℕ
-chosen r blocked = below most_threads (lowest_or (has_but r.first blocked) (has_but r.left blocked) most_threads)
+chosen r blocked = if_below most_threads (lowest_or (has_but r.first blocked) (has_but r.left blocked) most_threads)

@@ -21,7 +21,7 @@ pub fn allows(lengths: &[u32], t: usize, n: u32, wait: u32) -> bool
 }
 
 // The lowest thread that may step.
-pub fn lowest_allowed<'a>(lengths: &[u32], next: &'a [u32], waits: &'a [u32]) -> Option<usize>
+pub fn lowest_allowed(lengths: &[u32], next: &[u32], waits: &[u32]) -> Option<usize>
     ensures { AnswersLowestAllowed lengths.now next.now waits.now result }
 {
     for t in 0..lengths.len() {

@@ -7,7 +7,7 @@ use lib.ListN.{length, get_or, drop, length-drop, drop_of_length-le}
 use lib.Seq.{drop-cons}
 use Rattle.printing.specs.Figures.{figures}
 use Rattle.printing.specs.declared.Printer.{Printer}
-use Rattle.printing.specs.Putting.{Puts}
+use Rattle.printing.specs.Putting.{Prints}
 use Rattle.printing.proofs.Placing.{puts_none, puts_on}
 use Rattle.wording.specs.declared.Shown.TheVariants.{Generation}
 use Rattle.wording.specs.Lines.{command_word, gets_word, not_word, line_end, shown_line, parting_byte, steps_line}
@@ -15,14 +15,14 @@ use Rattle.wording.specs.Lines.{command_word, gets_word, not_word, line_end, sho
 -- of all the bytes a front is put, and the rest is left
 pub record Along (p q : Printer) (all rest : List ℕ) : Type 0 where
   pub front : List ℕ
-  pub puts : Puts p q front
+  pub puts : Prints p q front
   pub whole : all ≡ front ++ rest
 
 pub along_none : (p : Printer) (all : List ℕ) → Along p p all all
 along_none p all = record { front = []; puts = puts_none p; whole = refl }
 
 module _ {p q : Printer} {all rest : List ℕ} (A : Along p q all rest) where
-  pub along_more : {part left : List ℕ} → rest ≡ part ++ left → {r : Printer} → Puts q r part → Along p r all left
+  pub along_more : {part left : List ℕ} → rest ≡ part ++ left → {r : Printer} → Prints q r part → Along p r all left
   along_more {part} {left} e f =
       record {
         front = A.front ++ part;
@@ -30,7 +30,7 @@ module _ {p q : Printer} {all rest : List ℕ} (A : Along p q all rest) where
         whole = A.whole ∙ ap (λ (r : List ℕ). A.front ++ r) e ∙ sym (append_assoc A.front part left);
       }
 
-  pub along_end : rest ≡ [] → Puts p q all
+  pub along_end : rest ≡ [] → Prints p q all
   along_end e = rw (A.whole ∙ ap (λ (r : List ℕ). A.front ++ r) e ∙ append-nil A.front) A.puts
 
 -- ---- words

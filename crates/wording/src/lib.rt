@@ -2,7 +2,7 @@
 #![tactic(auto)]
 
 ghost use Rattle.std.specs.Prelude.{◌≡◌};
-ghost use Rattle.printing.specs.Putting.{Puts};
+ghost use Rattle.printing.specs.Putting.{Prints};
 ghost use Rattle.wording.specs.declared.Shown.TheVariants.{First, Generation};
 ghost use Rattle.wording.specs.Lines.{shown_line, parting_byte, steps_line};
 
@@ -20,7 +20,7 @@ pub enum Shown {
 
 // One command before another.
 pub fn put_first(out: &mut Printer<'_>, x: usize, y: usize)
-    ensures { Puts out.old out.new (shown_line (First x y)) }
+    ensures { Prints out.old out.new (shown_line (First x y)) }
 {
     out.put_within(b"command ", x, b" comes before command ");
     out.put_within(b"", y, b"\n");
@@ -28,7 +28,7 @@ pub fn put_first(out: &mut Printer<'_>, x: usize, y: usize)
 
 // Another generation than the one offered.
 fn put_generation(out: &mut Printer<'_>, c: usize, g: u32, h: u32)
-    ensures { Puts out.old out.new (shown_line (Generation c g h)) }
+    ensures { Prints out.old out.new (shown_line (Generation c g h)) }
 {
     out.put_within(b"command ", c, b" gets generation ");
     out.put_within(b"", g as usize, b", not ");
@@ -37,7 +37,7 @@ fn put_generation(out: &mut Printer<'_>, c: usize, g: u32, h: u32)
 
 // What a schedule shows, in words.
 pub fn put_shown(out: &mut Printer<'_>, shown: Shown)
-    ensures { Puts out.old out.new (shown_line shown) }
+    ensures { Prints out.old out.new (shown_line shown) }
 {
     match shown {
         Shown::First(x, y) => put_first(out, x, y),
@@ -61,7 +61,7 @@ fn parted_by(left: usize) -> u8
 
 // A schedule, thread by thread.
 pub fn put_steps(out: &mut Printer<'_>, schedule: &[u32])
-    ensures { Puts out.old out.new (steps_line schedule.now) }
+    ensures { Prints out.old out.new (steps_line schedule.now) }
 {
     for (i, t) in schedule.iter().enumerate() {
         out.put_number(*t as usize);

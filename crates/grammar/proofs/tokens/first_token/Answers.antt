@@ -8,16 +8,16 @@ use lib.ListN.{length, take}
 use lib.Seq.{length-take-le}
 use Rattle.spelling.specs.contracts.bytes.Class.{the_type}
 use Rattle.spelling.specs.declared.bytes.Class.{Class}
-use Rattle.spelling.specs.Bytes.{is, numbered, run}
+use Rattle.spelling.specs.Bytes.{is, of_class, run}
 use Rattle.spelling.proofs.Classes.{tag_code}
 use Rattle.spelling.proofs.Runs.{run_le}
 use Rattle.grammar.proofs.Pieces.{word_piece, number_piece, mark_piece}
 use Rattle.grammar.proofs.tokens.first_token.Goals as goal
 
 -- the first bytes, of the class that the first has
-module _ (s : List ℕ) (k : Class) (n : ℕ) (e : n ≡ run (numbered (tag_of the_type k)) s) where
+module _ (s : List ℕ) (k : Class) (n : ℕ) (e : n ≡ run (of_class (tag_of the_type k)) s) where
   is_run : n ≡ run (is k) s
-  is_run = e ∙ ap (λ (m : ℕ). run (numbered m) s) (tag_code k)
+  is_run = e ∙ ap (λ (m : ℕ). run (of_class m) s) (tag_code k)
 
   run_long : length (take n s) ≡ n
   run_long = length-take-le n s (omega (arith, is_run, run_le (is k) s))

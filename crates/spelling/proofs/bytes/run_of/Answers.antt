@@ -1,27 +1,12 @@
-use mathlib.Core.Path.{◌≡◌, refl, sym, ap, ◌∙◌}
-use native.Mathlib.Omega.{arith}
-use borrow.Author.Tests.{eq-eqb, ne_eqb}
-use Rattle.spelling.specs.Bytes.{code, numbered}
-use Rattle.spelling.proofs.Classes.{tag_code}
-use Rattle.spelling.proofs.Scans.{run_on, run_off, run_out}
+-- `run_of` meets its contract: it stops at the first byte that is not of the class, or at the end. Assumes nothing.
+use mathlib.Core.Path.{refl, ap, ◌∙◌}
+use lib.ListN.{length}
+use Rattle.std.specs.Option.{unwrap_or}
+use Rattle.spelling.specs.Bytes.{of_class}
+use Rattle.spelling.proofs.Runs.{run_position}
 use Rattle.spelling.proofs.bytes.run_of.Goals as goal
-
-pub returns-then-class_of-class : goal.returns-then-class_of-class
-returns-then-class_of-class c =
-    let l = c.loop-i in
-    let a = c.args in
-    let k = tag_code c.class_of.result ∙ ap code c.class_of.ensures in
-    omega (arith, l.invariant, run_off (numbered a.class) a.bytes.now l.i c.loop-i-test.true (ne_eqb _ _ (λ e. c.if-class_of-class.true (k ∙ e))))
-
-pub loop-i-preserved : goal.loop-i-preserved
-loop-i-preserved c =
-    let l = c.loop-i in
-    let a = c.args in
-    let k = tag_code c.class_of.result ∙ ap code c.class_of.ensures in
-    omega (arith, l.invariant, run_on (numbered a.class) a.bytes.now l.i c.loop-i-test.true (eq-eqb _ _ (sym k ∙ c.if-class_of-class.false)))
 
 pub returns : goal.returns
 returns c =
-    let l = c.loop-i in
-    let a = c.args in
-    omega (arith, l.auto.i-end, l.invariant, run_out (numbered a.class) a.bytes.now l.i c.loop-i-test.false)
+    let bytes = c.args.bytes.now in
+    c.unwrap_or.ensures ∙ ap (λ o. unwrap_or o (length bytes)) c.first_other.ensures ∙ run_position (of_class c.args.class) _ (λ b. refl) bytes

@@ -4,5 +4,5 @@ use Prim.Native.Nat.{◌*◌, ◌^◌, ◌≤◌}
 use Rattle.tables.specs.Rows.{first_row}
 use Rattle.tables.proofs.threads.first_row.Given as goal
 
-abbrev pub invariant-loop-t : goal.invariant-loop-t
-invariant-loop-t l = (l.sum ≡ first_row l.lengths l.t) × (l.sum ≤ 2 ^ 32 * l.t)
+abbrev pub invariant-loop-length : goal.invariant-loop-length
+invariant-loop-length l = (l.sum ≡ first_row l.lengths l.length-index) × (l.sum ≤ 2 ^ 32 * l.length-index)

@@ -4,41 +4,33 @@ use Prim.Native.Nat.{min}
 use native.Mathlib.Omega.{arith}
 use Rattle.tables.specs.Limits.{most_threads}
 use Rattle.tables.proofs.Rows.{first_within}
-use Rattle.steps.proofs.Stepping.{found, found_thread, found_next, answers_kept, answers_on, first_small}
+use Rattle.steps.proofs.Stepping.{found_thread, found_next, answers_kept, answers_on, first_small}
 use Rattle.steps.proofs.state.Replay.step.Goals as goal
 
-pub thread_row-row-requires : goal.thread_row-row-requires
+pub change-made-requires : goal.change-made-requires
 unfolding most_threads
-thread_row-row-requires c =
-    let t = min c.args.t most_threads in
-    omega (arith, c.first_row.ensures, first_small c.args.lengths.now (λ i. omega (arith, c.type_inv.lengths i)) t)
+change-made-requires c =
+    let a = c.args in
+    let t = min a.t most_threads in
+    record {
+      small = omega (arith, c.first_row.ensures, first_small a.lengths.now (λ i. omega (arith, c.type_inv.lengths i)) t);
+      begins = λ l. c.first_row.ensures ∙ first_within a.lengths.now a.t (omega arith);
+    }
 
 pub returns-then-not-goes_on : goal.returns-then-not-goes_on
 returns-then-not-goes_on c =
-    let a = c.args in
-    let F =
-    found a.commands.now a.lengths.now a.self a.t c.first_row.result _ _ _ _ (λ l. c.first_row.ensures ∙ first_within a.lengths.now a.t (omega arith))
-    c.at-n.ensures c.at-wait.ensures c.thread_row-row.ensures.0 c.run_row-made.ensures in
-    answers_kept F (sym c.goes_on.ensures ∙ c.if-not-goes_on.true)
+    answers_kept c.change-made.ensures (sym c.goes_on.ensures ∙ c.if-not-goes_on.true)
 
 pub store-requires : goal.store-requires
 store-requires c =
-    let a = c.args in
-    let F =
-    found a.commands.now a.lengths.now a.self a.t c.first_row.result _ _ _ _ (λ l. c.first_row.ensures ∙ first_within a.lengths.now a.t (omega arith))
-    c.at-n.ensures c.at-wait.ensures c.thread_row-row.ensures.0 c.run_row-made.ensures in
     let goes = sym c.goes_on.ensures ∙ c.if-not-goes_on.false in
     record {
-      thread = found_thread F goes;
-      barrier = c.thread_row-row.ensures.1;
-      counts = omega (arith, found_next F goes, c.type_inv.lengths a.t);
+      thread = found_thread c.change-made.ensures goes;
+      barrier = c.change-made.ensures.known;
+      counts = omega (arith, found_next c.change-made.ensures goes, c.type_inv.lengths c.args.t);
     }
 
 pub returns : goal.returns
 returns c =
-    let a = c.args in
-    let F =
-    found a.commands.now a.lengths.now a.self a.t c.first_row.result _ _ _ _ (λ l. c.first_row.ensures ∙ first_within a.lengths.now a.t (omega arith))
-    c.at-n.ensures c.at-wait.ensures c.thread_row-row.ensures.0 c.run_row-made.ensures in
-    answers_on F (sym c.goes_on.ensures ∙ c.if-not-goes_on.false)
+    answers_on c.change-made.ensures (sym c.goes_on.ensures ∙ c.if-not-goes_on.false)
     c.store.ensures
