@@ -54,7 +54,7 @@ impl Lanes {
         }
     }
 
-    // A token comes off the stack. A number past the types is a call. The type stays a number: `AnswersWake` and `wake_one` answer for any.
+    // A token comes off the stack. A number past the types is a call. The type stays a number: by `AnswersWake` and `wake_one` any is answered for.
     pub fn wake(self, kind: u32, mask: u32) -> Self
         ensures { AnswersWake self kind mask result }
     {

@@ -38,6 +38,7 @@ pub(crate) fn put_told(answer: &mut [u32], told: Told, third: usize, fourth: usi
 }
 
 // Both numbers of each of the sheet's pairs, after the first four places, which are kept.
+#[tactic(auto, unfolding(crate::specs::Numbers::answer_room))]
 pub(crate) fn put_sheet(answer: &mut [u32], sheet: Sheet)
     requires { (answer_room ≤ length answer.old) × PairsCounted sheet.pairs }
     ensures { answer.new ≡ over (take 4 answer.old ++ pair_numbers sheet.pairs) answer.old }

@@ -33,7 +33,8 @@ module _ (s e : List ℕ) (lanes : ℕ) where
   abbrev pub StepsByTable2 : Type 0
   StepsByTable2 = Admitted → (μ : Mem) (w : Warp) → ReachedWarp s e lanes μ w → w.stack ≢ [] → Transition (bodies_of s e) lanes (config_of s e w) (config_of s e (next_warp s e w))
 
-  -- every step from a state that a start reaches is matched by some steps of single threads of Table 4, that end in the same memory and leave each lane what the warp's stack and disable states still hold for it (R73)
+  -- every step from a state that a start reaches is matched by some steps of single threads of Table 4, that end in the same memory
+  -- and leave each lane what the warp's stack and disable states still hold for it (R73)
   abbrev pub StepsMatched : Type 0
   StepsMatched = Admitted → (μ : Mem) (w : Warp) → ReachedWarp s e lanes μ w → w.stack ≢ []
       → Interleaved (bodies_of s e) lanes (stacks_of lanes (config_of s e w)) w.cells (stacks_of lanes (config_of s e (next_warp s e w))) (next_warp s e w).cells

@@ -1,4 +1,4 @@
--- `meets` meets its contract: the answer is the one from the list that the loop has come to, with as many rows to go as are left, whatever test is made. Assumes nothing.
+-- `meets` meets its contract: the answer is the one from the list that the loop has come to, with the rows to go that are left, whatever test is made. Assumes nothing.
 use mathlib.Core.Path.{◌≡◌}
 use mathlib.Core.Bool.{Bool}
 use Prim.Native.Nat.{ℕ, ◌-◌, ◌<◌}

@@ -35,38 +35,6 @@ pub returns : goal.returns
 unfolding most_kept
 returns c = let l = c.loop-i in putting_done _ _ _ l.i l.invariant.1 (omega (arith, c.requires.1.many, c.loop-i-test.false))
 
-pub overflow_mul-answer : goal.overflow_mul-answer
-unfolding answer_room
-overflow_mul-answer c = search rules
-
-pub overflow_add-answer : goal.overflow_add-answer
-unfolding answer_room
-overflow_add-answer c = search rules
-
-pub offset_bounds-answer-i : goal.offset_bounds-answer-i
-unfolding answer_room
-offset_bounds-answer-i c = search rules
-
-pub bounds-answer-i : goal.bounds-answer-i
-unfolding answer_room
-bounds-answer-i c = search rules
-
-pub overflow_mul-answer-in-loop-i : goal.overflow_mul-answer-in-loop-i
-unfolding answer_room
-overflow_mul-answer-in-loop-i c = search rules
-
-pub overflow_add-answer-in-loop-i : goal.overflow_add-answer-in-loop-i
-unfolding answer_room
-overflow_add-answer-in-loop-i c = search rules
-
-pub offset_bounds-answer-i-in-loop-i : goal.offset_bounds-answer-i-in-loop-i
-unfolding answer_room
-offset_bounds-answer-i-in-loop-i c = search rules
-
 pub bounds-answer-i-in-loop-i : goal.bounds-answer-i-in-loop-i
 unfolding answer_room
 bounds-answer-i-in-loop-i c = simp length-set (search rules)
-
-pub shape_of-answer : goal.shape_of-answer
-unfolding answer_room
-shape_of-answer c = search rules
