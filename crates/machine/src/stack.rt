@@ -88,7 +88,7 @@ impl Tower<'_> {
     {
         for i in (0..code.len() / 5).rev() {
             if code[5 * i] == b {
-                // `put` here makes a step on a full table take 1.5 times as long (bench/warps.c); a row's number is the row
+                // `put` here, or a height of the loop's own, makes a step on a full table take 1.5 times as long (bench/warps.c); a row's number is the row
                 self.room[self.height] = i as u64;
                 self.height += 1;
             }

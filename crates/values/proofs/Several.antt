@@ -8,7 +8,6 @@ use Rattle.relation.proofs.Truth.{split}
 use Rattle.warps.specs.Language.{Mem, eval}
 use Rattle.kernels.specs.Limits.{most_expressions}
 use Rattle.kernels.specs.Rows.{expr_kind, expr_x, expr_y}
-use Rattle.values.specs.declared.rows.Term.{Term}
 use Rattle.values.specs.Expressions.{expr_at}
 use Rattle.values.specs.Needs.{value_by, SameValue, strip_of, Ahead, Strips, StripDone, CanFill, RowDone, Zeroed, Valued}
 use Rattle.values.proofs.Filling.{value_step, in_limit}
@@ -123,5 +122,5 @@ module _ (e : List ℕ) (n : ℕ) (μ : Mem) where
           rest = λ q h. let m : i * n + n ≤ q = rw (next_strip n i) at h in D.above q m ∙ L.rest q (omega arith);
         }
 
-pub laid_all : (t : Term) {n : ℕ} {v u : List ℕ} {i : ℕ} → Laid t.expressions.now n t.cells.now v i → t.root < i → CanFill u t.root n → Valued t n v
-laid_all t L l C k m = in_limit t.expressions.now t.root k t.cells.now _ C.few (L.past t.root k l m)
+  pub laid_all : {v u : List ℕ} {root i : ℕ} → Laid v i → root < i → CanFill u root n → Valued e root n μ v
+  laid_all {root = root} L l C k m = in_limit e root k μ _ C.few (L.past root k l m)

@@ -1,14 +1,9 @@
 -- What the parts ask for and pass on; nothing public speaks of it.
 use Rattle.std.specs.Prelude.{◌≡◌, ℕ, ◌+◌, ◌-◌, ◌*◌, ◌%◌, ◌^◌, ◌<◌, ◌≤◌, cond, List, length, ◌==◌, nat_lt, slice_index}
-use Rattle.warps.specs.Language.{Expr, Mem, eval}
+use Rattle.warps.specs.Language.{Mem, eval}
 use Rattle.kernels.specs.Limits.{most_expressions}
 use Rattle.kernels.specs.Rows.{expr_kind, expr_x, expr_y, number_expr, cell_expr, lane_expr, sum_expr, difference_expr}
-use Rattle.values.specs.declared.rows.Term.{Term}
 use Rattle.values.specs.Expressions.{expression}
-
--- what a row denotes
-abbrev pub meaning : Term → Expr
-meaning t = expression t.expressions.now t.root
 
 -- the value of a row, from those of its operands and of cell x
 abbrev pub value_by : (kind x a b held t : ℕ) → ℕ
@@ -63,6 +58,6 @@ RowDone e i count μ v v' = StripDone (expr_kind e i) (expr_x e i) (slice_index 
 abbrev pub Zeroed : List ℕ → Type 0
 Zeroed v = (q : ℕ) → slice_index v q ≡ 0
 
--- the values of the row stand there
-abbrev pub Valued : Term → (count : ℕ) → List ℕ → Type 0
-Valued t count v = (k : ℕ) → k < count → slice_index v (t.root * count + k) ≡ eval (meaning t) k t.cells.now
+-- the values of row `root` stand there
+abbrev pub Valued : (e : List ℕ) (root count : ℕ) → Mem → List ℕ → Type 0
+Valued e root count μ v = (k : ℕ) → k < count → slice_index v (root * count + k) ≡ eval (expression e root) k μ

@@ -1,9 +1,9 @@
 // The rows one after the other, for several lanes at once: in a room the values of row i stand from `i * count` on, a number a lane.
 ghost use Rattle.std.specs.Prelude.{◌≡◌, ℕ, ◌+◌, ◌*◌, ◌^◌, ◌<◌, ◌≤◌, length};
 ghost use Rattle.kernels.specs.Rows.{sum_expr, expression_number};
-ghost use Rattle.values.specs.Needs.{value_by, strip_of, Strips, StripDone, CanFill, RowDone, Zeroed, Valued};
+ghost use Rattle.values.specs.Needs.{strip_of, Strips, StripDone, CanFill, RowDone, Zeroed, Valued};
 
-use crate::rows::{Term, kind_at, pair_value};
+use crate::rows::{kind_at, leaf_value, pair_value};
 use kernels::ExpressionKind;
 use relation::at;
 
@@ -15,19 +15,7 @@ fn strip(x: u32, i: usize, count: usize) -> usize
     i.min(x as usize) * count
 }
 
-// A row without operands: the number x, what cell x holds, or the lane's number.
-fn leaf_value(kind: ExpressionKind, x: u32, held: u32, lane: u32) -> u32
-    requires { expression_number kind < sum_expr }
-    ensures { (a b : ℕ) → result ≡ value_by (expression_number kind) x a b held lane }
-{
-    match kind {
-        ExpressionKind::Number => x,
-        ExpressionKind::Cell => held,
-        _ => lane,
-    }
-}
-
-// The same for each lane.
+// A row without operands.
 fn fill_leaf(values: &mut [u32], kind: ExpressionKind, x: u32, held: u32, to: usize, count: usize)
     requires { (expression_number kind < sum_expr) × (to + count ≤ length values.old) × (count ≤ 32) }
     ensures { (a b : ℕ) → StripDone (expression_number kind) x held a b to count values.old values.new }
@@ -47,35 +35,39 @@ fn fill_pair(values: &mut [u32], kind: ExpressionKind, a: usize, b: usize, to: u
     }
 }
 
-impl Term<'_> {
-    // Row i.
-    fn fill_row(self, i: usize, count: usize, values: &mut [u32])
-        requires { CanFill values.old i count }
-        ensures { RowDone self.entry.expressions.now i count self.entry.cells.now values.old values.new }
-    {
-        let kind = kind_at(self.expressions, i);
-        let x = at(self.expressions, 3 * i + 1, 0);
-        match kind {
-            ExpressionKind::Number | ExpressionKind::Cell | ExpressionKind::Lane => {
-                let held = at(self.cells, x as usize, 0);
-                fill_leaf(values, kind, x, held, i * count, count);
-            }
-            ExpressionKind::Sum | ExpressionKind::Difference | ExpressionKind::Less => {
-                let y = at(self.expressions, 3 * i + 2, 0);
-                let a = strip(x, i, count);
-                let b = strip(y, i, count);
-                fill_pair(values, kind, a, b, i * count, count);
-            }
+// Row i.
+fn fill_row(expressions: &[u32], i: usize, count: usize, cells: &[u32], values: &mut [u32])
+    requires { CanFill values.old i count }
+    ensures { RowDone expressions.now i count cells.now values.old values.new }
+{
+    let kind = kind_at(expressions, i);
+    let x = at(expressions, 3 * i + 1, 0);
+    match kind {
+        ExpressionKind::Number | ExpressionKind::Cell | ExpressionKind::Lane => {
+            let held = at(cells, x as usize, 0);
+            fill_leaf(values, kind, x, held, i * count, count);
+        }
+        ExpressionKind::Sum | ExpressionKind::Difference | ExpressionKind::Less => {
+            let y = at(expressions, 3 * i + 2, 0);
+            let a = strip(x, i, count);
+            let b = strip(y, i, count);
+            fill_pair(values, kind, a, b, i * count, count);
         }
     }
+}
 
-    // All rows, for the first `count` lanes, into a room in which nothing stands.
-    pub(crate) fn fill_rows(self, count: usize, values: &mut [u32])
-        requires { Zeroed values.old × CanFill values.old self.root count }
-        ensures { Valued self.entry count values.new }
-    {
-        for i in 0..self.root + 1 {
-            self.fill_row(i, count, values);
-        }
+// The rows up to `root`, for the first `count` lanes, into a room in which nothing stands.
+pub(crate) fn fill_rows(
+    expressions: &[u32],
+    root: usize,
+    count: usize,
+    cells: &[u32],
+    values: &mut [u32],
+)
+    requires { Zeroed values.old × CanFill values.old root count }
+    ensures { Valued expressions.now root count cells.now values.new }
+{
+    for i in 0..root + 1 {
+        fill_row(expressions, i, count, cells, values);
     }
 }

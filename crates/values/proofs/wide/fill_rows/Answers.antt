@@ -1,7 +1,7 @@
 use Rattle.std.proofs.Common.{arith}
 use Rattle.kernels.specs.Limits.{most_expressions}
 use Rattle.values.proofs.Several.{can_fill, laid_none, laid_more, laid_all}
-use Rattle.values.proofs.rows.Term.fill_rows.Goals as goal
+use Rattle.values.proofs.wide.fill_rows.Goals as goal
 
 pub loop-i-init : goal.loop-i-init
 loop-i-init c = laid_none _ _ _ _ c.requires.0
@@ -17,4 +17,4 @@ pub loop-i-preserved : goal.loop-i-preserved
 loop-i-preserved c = laid_more _ _ _ _ _ c.loop-i.invariant _ c.fill_row.ensures
 
 pub returns : goal.returns
-returns c = laid_all c.args.self c.loop-i.invariant (omega arith) c.requires.1
+returns c = laid_all _ _ _ c.loop-i.invariant (omega arith) c.requires.1

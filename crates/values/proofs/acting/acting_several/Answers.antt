@@ -2,7 +2,7 @@
 use Rattle.std.proofs.Common.{arith}
 use Rattle.kernels.specs.Limits.{most_expressions}
 use Rattle.values.proofs.Several.{most_needed}
-use Rattle.values.proofs.rows.Term.acting_several.Goals as goal
+use Rattle.values.proofs.acting.acting_several.Goals as goal
 
 pub overflow_add-needed : goal.overflow_add-needed
 unfolding most_expressions

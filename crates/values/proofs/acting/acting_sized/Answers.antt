@@ -1,7 +1,7 @@
 -- `acting_sized` meets its contract: the room serves. Assumes nothing.
 use Rattle.std.proofs.Common.{arith}
 use Rattle.values.proofs.Several.{new_room}
-use Rattle.values.proofs.rows.Term.acting_sized.Goals as goal
+use Rattle.values.proofs.acting.acting_sized.Goals as goal
 
 pub whole_as_slice-acting_in : goal.whole_as_slice-acting_in
 whole_as_slice-acting_in g c = omega arith

@@ -1,9 +1,8 @@
 use Rattle.std.proofs.Common.{◌≡◌, ap, ◌∙◌, arith}
-use Rattle.values.specs.Expressions.{acting}
-use Rattle.values.specs.Needs.{meaning}
+use Rattle.values.specs.Expressions.{expression, acting}
 use Rattle.values.proofs.Lanewise.{acts_as, acting_none, acting_hit, acting_miss}
-use Rattle.values.proofs.rows.Term.acting_in.Goals as goal
-use Rattle.values.proofs.rows.Term.acting_in.Goals.{then-mask-t, else-mask-t}
+use Rattle.values.proofs.acting.acting_in.Goals as goal
+use Rattle.values.proofs.acting.acting_in.Goals.{then-mask-t, else-mask-t}
 
 pub loop-t-init : goal.loop-t-init
 loop-t-init c = acting_none _ _ _
@@ -20,4 +19,4 @@ pub returns : goal.returns
 returns c =
     let a = c.args in
     let e : c.loop-t.t ≡ a.count = omega arith in
-    c.loop-t.invariant ∙ ap (acting a.mask (meaning a.self) a.self.cells.now) e
+    c.loop-t.invariant ∙ ap (acting a.mask (expression a.expressions.now a.root) a.cells.now) e

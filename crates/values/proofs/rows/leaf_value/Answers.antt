@@ -1,6 +1,6 @@
 -- `leaf_value` meets its contract, by the row's kind. Assumes nothing.
 use Rattle.values.proofs.Filling.{is_number, is_cell, is_lane}
-use Rattle.values.proofs.wide.leaf_value.Goals as goal
+use Rattle.values.proofs.rows.leaf_value.Goals as goal
 
 pub returns-in-Number : goal.returns-in-Number
 returns-in-Number c a b = is_number _ _ a b _ _ c.in-Number.is
