@@ -15,7 +15,8 @@ pub(crate) struct Entered {
     pub(crate) after: Barrier,
 }
 
-// What the step did; what its thread waits for then; what those waited for who are released; and the barrier that it entered. Both waits are numbers, 0 or the barrier plus 1, as the state's list holds them: an Option would only be made a number again.
+// What the step did; what its thread waits for then; what those waited for who are released; and the barrier that it entered.
+// Both waits are numbers, 0 or the barrier plus 1, as the state's list holds them: an Option would only be made a number again.
 #[derive(Clone, Copy)]
 pub(crate) struct Change {
     pub(crate) did: Did,

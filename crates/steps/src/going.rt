@@ -13,7 +13,7 @@ use tables::Table;
 use turns::put;
 use verdicts::Verdict;
 
-// Where a replay has come to: the state, each command's generation, the steps that ran, and 5, 7 or, if all ran, 0.
+// Where a replay has come to: the state, each command's generation, the steps that ran, and 5, 7 or, if all ran, 0. No Result: all else is told with 5 and 7, too.
 #[derive(Clone, Copy)]
 pub struct Replayed {
     pub state: Replay,

@@ -1,5 +1,6 @@
-// The steps of a replay, from any state, over any tables: one step, any entries of a schedule, how a replay ended, and the schedule that a choice writes. Commands and lengths stay two
-// parameters here, and are no `Tables`: tried, and of a slice within a struct no fact says that its numbers fit 32 bits, by which a thread's count is shown to fit.
+// The steps of a replay, from any state, over any tables: one step, any entries of a schedule, how a replay ended, and the schedule that a choice writes.
+// Commands and lengths stay two parameters here, and are no `Tables`: tried, and of a slice within a struct no fact says that its numbers fit 32 bits,
+// by which a thread's count is shown to fit.
 #![tactic(auto)]
 
 mod change; // what a step changes

@@ -12,7 +12,8 @@ use crate::state::Replay;
 use relation::at;
 use tables::first_row;
 
-// An allowed step met a mismatch at a command, or ran a command, which has this generation.
+// An allowed step met a mismatch at a command, or ran a command, which has this generation. Neither this nor `Did` is an Option or a Result:
+// document 01 has the step's answer be an enum, taken apart by let .. else.
 #[derive(Clone, Copy)]
 pub enum How {
     Mismatch(usize),
