@@ -24,6 +24,7 @@ pub(crate) struct Full;
 impl Full {
     pub(crate) const NUMBERS: usize = Table::ROWS * 3;
 
+    // by hand: a constant takes no call, such as div_ceil
     pub(crate) const WORDS: usize = Table::ROWS * ((Table::ROWS + 31) / 32);
 }
 
