@@ -166,8 +166,7 @@ module _ (commands lengths generations heads leaders : List ℕ) (H : Headed len
       rw q (drawn i i (i + 1) (omega arith) (next (pair _ _ (lt-ltb _ _ (rw q at lk)) (ap not (rw q at (begins k lk ∙ f))))))
   edge_drawn i k (meets li lk ri sk a e) =
       let M : Meeting commands generations i k = record { from = li; to = lk; register = ri; sync = sk; barrier = a; generation = e } in
-      let (l, q) = sync_led commands generations leaders S k lk sk in
-      let N = meets_parts commands generations k l (leader_met commands generations leaders k q) in
+      let (l, q, N) = sync_led commands generations leaders S k lk sk in
       let same = same_leader commands generations leaders i k M in
       reach_join (drawn i i l li (led (to (same ∙ q))))
       (drawn k l k lk (led (from q (parts_meet commands generations (meets_beside commands generations N (meets_itself commands generations k lk sk))))))

@@ -147,10 +147,13 @@ module _ (commands generations : List ℕ) where
     pub leader_met : (c : ℕ) {l : ℕ} → leader commands generations leaders c ≡ Some l → does_meet_row commands generations c l ≡ true
     leader_met c e = or_last_is (does_meet_row commands generations c) (sits commands generations leaders c) (rows commands) e
 
-    -- each sync has one
+    -- each sync has one, which it meets
     pub sync_led : Seated commands generations leaders (rows commands) → (k : ℕ) → k < rows commands → syncs commands k ≡ true
-        → (l : ℕ) × (leader commands generations leaders k ≡ Some l)
-    sync_led S k l s = or_last_found (does_meet_row commands generations k) (sits commands generations leaders k) (rows commands) (S k l s) k l (parts_meet (meets_itself k l s))
+        → (l : ℕ) × (leader commands generations leaders k ≡ Some l) × Meeting commands generations k l
+    sync_led S k l s =
+        let (m, e) =
+        or_last_found (does_meet_row commands generations k) (sits commands generations leaders k) (rows commands) (S k l s) k l (parts_meet (meets_itself k l s)) in
+        (m, e, meets_parts k m (leader_met k e))
 
     -- one more sync takes its seat
     pub seated_more : (c : ℕ) → c < rows commands → seat commands generations c < length leaders → Seated commands generations leaders c
