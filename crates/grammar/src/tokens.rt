@@ -78,22 +78,27 @@ fn mark(bytes: &[u8]) -> Piece
     Piece { token, size }
 }
 
-// The token that the bytes begin with.
+// The token that the bytes begin with. The run is looked for in each arm: a mark has none, and where the class is known the search is quicker.
 fn first_token(bytes: &[u8]) -> Piece
     requires { 0 < length bytes.now }
     ensures { result ≡ piece_of bytes.now }
 {
     let class = class_of(bytes[0]);
-    let run = &bytes[..run_of(bytes, class as u32)];
     match class {
-        Class::Letter => Piece {
-            token: word(run),
-            size: run.len(),
-        },
-        Class::Digit => Piece {
-            token: number(run),
-            size: run.len(),
-        },
+        Class::Letter => {
+            let run = &bytes[..run_of(bytes, class as u32)];
+            Piece {
+                token: word(run),
+                size: run.len(),
+            }
+        }
+        Class::Digit => {
+            let run = &bytes[..run_of(bytes, class as u32)];
+            Piece {
+                token: number(run),
+                size: run.len(),
+            }
+        }
         _ => mark(bytes),
     }
 }

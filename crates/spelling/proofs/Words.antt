@@ -2,10 +2,12 @@
 use mathlib.Core.Path.{◌≡◌, refl, sym, ap}
 use mathlib.Core.Bool.{Bool, true, false, ◌&&◌, true≢false}
 use mathlib.Core.List.{List, [], ◌∷◌}
+use mathlib.Core.Logic.{◌⊎◌, inl, inr}
 use Prim.Native.Nat.{ℕ}
+use native.Mathlib.Omega.{arith}
 use lib.Dec.{eqb}
-use lib.Pointwise.{pointwise}
-use borrow.Author.Tests.{eqb-true}
+use lib.ListN.{length}
+use borrow.Author.Tests.{eq-eqb, ne_eqb, eqb-true}
 use Rattle.spelling.specs.Words.{same_bytes}
 
 pub both : (a b : Bool) → (a && b) ≡ true → (a ≡ true) × (b ≡ true)
@@ -23,10 +25,32 @@ alike_same (b ∷ s) (c ∷ w) e =
     let y : s ≡ w = alike_same s w h.1 in
     cc
 
--- `==` on slices tests the same
-pub alike_pairs : (s w : List ℕ) → pointwise eqb s w ≡ same_bytes s w
+pub alike_long : (s w : List ℕ) → (length s ≡ length w → ⊥) → same_bytes s w ≡ false
 unfolding same_bytes
-alike_pairs [] [] = refl
-alike_pairs [] (c ∷ w) = refl
-alike_pairs (b ∷ s) [] = refl
-alike_pairs (b ∷ s) (c ∷ w) = ap (λ (t : Bool). eqb b c && t) (alike_pairs s w)
+alike_long [] [] n = absurd (n refl)
+alike_long [] (c ∷ w) n = refl
+alike_long (b ∷ s) [] n = refl
+alike_long (b ∷ s) (c ∷ w) n = rw (alike_long s w (λ e. n (rw e))) (no (eqb b c))
+  where
+    no : (a : Bool) → (a && false) ≡ false
+    no true = refl
+    no false = refl
+
+-- what is still to compare, where a byte stands on each side
+module _ {s w t v : List ℕ} {b c : ℕ} (e : s ≡ b ∷ t) (f : w ≡ c ∷ v) where
+  pub alike_on : b ≡ c → same_bytes t v ≡ same_bytes s w
+  unfolding same_bytes
+  alike_on h = rw (e, f, eq-eqb b c h) refl
+
+  pub alike_off : (b ≡ c → ⊥) → same_bytes s w ≡ false
+  unfolding same_bytes
+  alike_off n = rw (e, f, ne_eqb b c n) refl
+
+-- nothing is left on one side, and so on the other
+pub alike_out : (s w : List ℕ) → (s ≡ []) ⊎ (w ≡ []) → length s ≡ length w → same_bytes s w ≡ true
+unfolding same_bytes
+alike_out [] [] h n = refl
+alike_out [] (c ∷ w) h n = absurd (omega arith)
+alike_out (b ∷ s) [] h n = absurd (omega arith)
+alike_out (b ∷ s) (c ∷ w) (inl e) n = absurd (omega (arith, ap length e))
+alike_out (b ∷ s) (c ∷ w) (inr e) n = absurd (omega (arith, ap length e))

@@ -25,6 +25,9 @@ module _ (s : List ℕ) (k : Class) (n : ℕ) (e : n ≡ run (of_class (tag_of t
 pub slice_bounds-run-end : goal.slice_bounds-run-end
 slice_bounds-run-end c = sym (run_long _ _ _ c.run_of.ensures)
 
+pub slice_bounds-run-end-in-Digit : goal.slice_bounds-run-end-in-Digit
+slice_bounds-run-end-in-Digit c = sym (run_long _ _ _ c.run_of-in-Digit.ensures)
+
 pub returns-in-Letter : goal.returns-in-Letter
 returns-in-Letter c =
     let k = c.class_of-class in
@@ -33,7 +36,8 @@ returns-in-Letter c =
 pub returns-in-Digit : goal.returns-in-Digit
 returns-in-Digit c =
     let k = c.class_of-class in
-    rw (run_long _ _ _ c.run_of.ensures) (number_piece _ _ k.ensures c.in-Digit.is _ (is_run _ _ _ c.run_of.ensures) _ c.number.ensures)
+    let r = c.run_of-in-Digit in
+    rw (run_long _ _ _ r.ensures) (number_piece _ _ k.ensures c.in-Digit.is _ (is_run _ _ _ r.ensures) _ c.number.ensures)
 
 pub returns-in_default : goal.returns-in_default
 returns-in_default c = c.mark.ensures ∙ mark_piece _ _ c.class_of-class.ensures c.in_default.not-Letter c.in_default.not-Digit
