@@ -25,7 +25,7 @@ use Rattle.findings.specs.Needs.{is_fault_at, listed, key, wanted, Next, Lists, 
 use Rattle.faults.proofs.Searched.{along_none, along_found, along_passed, row_length}
 use Rattle.faults.proofs.Tests.{found_reuse, found_race}
 
-key_small : (s : Searched) (f : Fault) (c : ℕ) → key s f c < most_rows
+pub key_small : (s : Searched) (f : Fault) (c : ℕ) → key s f c < most_rows
 unfolding most_rows
 key_small s Reuse c = omega arith
 key_small s Race c = omega arith

@@ -43,7 +43,7 @@ sets_over w room h = sets-eq w room 0 (omega arith) ∙ rw (zero-add (length w))
 
 -- ---- puts one after another
 
-puts_bytes_on : {before mid after : List ℕ} {at n k : ℕ} {a b : List ℕ} → PutsBytes before mid at a n → PutsBytes mid after n b k → PutsBytes before after at (a ++ b) k
+pub puts_bytes_on : {before mid after : List ℕ} {at n k : ℕ} {a b : List ℕ} → PutsBytes before mid at a n → PutsBytes mid after n b k → PutsBytes before after at (a ++ b) k
 puts_bytes_on {before} {at = at} {a = a} {b} p q =
     record {
       room = q.room ∙ rw (p.room, p.on) (sets_on before at a b);

@@ -128,7 +128,7 @@ module _ (commands lengths : List ℕ) (s : Replay) (t : ℕ) where
   unfolding allowed may_step row_of_thread
   not_allowed e = rw e
 
-  goes_so : does_go_on (step_change commands lengths s t).did ≡ true → allowed lengths s t ≡ true
+  pub goes_so : does_go_on (step_change commands lengths s t).did ≡ true → allowed lengths s t ≡ true
   goes_so g = ⊎_elim (λ e. e) (λ (e : allowed lengths s t ≡ false). clashing g (not_allowed e)) (split (allowed lengths s t))
 
   pub goes_allowed : does_go_on (step_change commands lengths s t).did ≡ true → May
