@@ -25,7 +25,8 @@ pub fn class_of(byte: u8) -> Class
     }
 }
 
-// The first byte that is not of a class. A loop and no `position`: an edit leaves bytes out by their place, and of a right `position` with such a test no proof was found.
+// The first byte that is not of a class. A loop and no `position`: an edit leaves bytes out by their place,
+// and of a right `position` with such a test no proof was found.
 fn first_other(bytes: &[u8], class: u32) -> Option<usize>
     ensures { result ≡ position (λ b. not (of_class class b)) bytes.now }
 {

@@ -7,7 +7,7 @@ use Rattle.spelling.proofs.Words.{alike_long, alike_on, alike_off, alike_out}
 use Rattle.spelling.proofs.word.same.Goals as goal
 
 pub returns-then-bytes-word : goal.returns-then-bytes-word
-returns-then-bytes-word c = sym (alike_long _ _ c.if-bytes-word.true)
+returns-then-bytes-word c = sym (alike_long _ _ (λ e. omega (arith, e, c.if-bytes-word.true)))
 
 pub loop-byte-init : goal.loop-byte-init
 loop-byte-init c = (search rules, search rules)
